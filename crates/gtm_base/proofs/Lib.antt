@@ -1,0 +1,7 @@
+pub mod Characters
+pub mod Digits
+pub mod Lookups
+pub mod OpenFile
+pub mod Pairs
+pub mod Pieces
+pub mod SameKeyed

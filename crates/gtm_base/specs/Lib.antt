@@ -1,0 +1,11 @@
+pub mod formers
+pub mod Ascii
+pub mod Causes
+pub mod Disk
+pub mod Keys
+pub mod KeysStay
+pub mod LentValue
+pub mod Memory
+pub mod MemoryView
+pub mod Outside
+pub mod StatusCode

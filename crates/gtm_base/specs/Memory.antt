@@ -1,0 +1,34 @@
+-- Files and a sink in memory, as contracts see them.
+use Rattle.std.specs.Prelude.{ℕ, List, [], ◌∷◌, ◌++◌, drop, slice_get, Option, option_map, option_and_then}
+use Rattle.std.specs.Option.{option_map_or}
+use Rattle.gtm_base.specs.Keys.{place_of, with_value}
+
+-- the bytes taken so far, the calls that are to fail, and how many calls there were and failed
+pub record MemorySink : Type 0 where
+  pub bytes : List ℕ
+  pub failing : List ℕ
+  pub calls : ℕ
+  pub faults : ℕ
+
+-- what each name holds, the calls that are to fail, how many calls there were and failed, the place of the open file
+-- among the names, how many of its bytes were read, and the names that `open` was handed
+pub record MemoryFiles : Type 0 where
+  pub held : List (List ℕ × List ℕ)
+  pub failing : List ℕ
+  pub calls : ℕ
+  pub faults : ℕ
+  pub file : Option ℕ
+  pub done : ℕ
+  pub names : Option (List (List ℕ))
+
+-- the name of the open file
+abbrev pub name_in : MemoryFiles → Option (List ℕ)
+name_in files = option_and_then (λ place. option_map (λ pair. pair.0) (slice_get files.held place)) files.file
+
+-- the bytes of the open file that were not read yet
+abbrev pub left_in : MemoryFiles → Option (List ℕ)
+left_in files = option_and_then (λ place. option_map (λ pair. drop files.done pair.1) (slice_get files.held place)) files.file
+
+-- the files with these bytes under this name: in place of what it held, or last
+abbrev pub with_file : List (List ℕ × List ℕ) → List ℕ → List ℕ → List (List ℕ × List ℕ)
+with_file files name bytes = option_map_or (λ at. with_value files at bytes) (place_of name files) (files ++ (name, bytes) ∷ [])

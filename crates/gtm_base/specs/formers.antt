@@ -1,0 +1,2 @@
+pub mod keyed
+pub mod list

@@ -1,0 +1,163 @@
+ghost use Rattle.std.specs.Prelude.{◌≡◌, ◌≤◌, ◌<◌, ◌^◌, [], ◌++◌, ◌∷◌, length, take, drop, Some, None, OnOk, OnErr};
+ghost use Rattle.std.specs.Str.{chars};
+ghost use Rattle.std.specs.Prelude.{◌+◌, option_map, slice_get};
+ghost use Rattle.gtm_base.specs.Memory.{with_file};
+
+use crate::handed::keep_name;
+use crate::{FileFailed, Files, Keyed, ListOf, OutOfMemory, Text};
+use std::alloc::Global;
+use std::marker::Model;
+
+/// Files in memory, some of whose calls can be made to fail.
+#[derive(Drop)]
+pub struct MemFiles {
+    alloc: Global,
+    files: Keyed<ListOf<u8>>,
+    failing: Vec<u64>,
+    calls: u64,
+    faults: u64,
+    // The place of the open file among the files, and how many of its bytes were read.
+    file: Option<usize>,
+    done: usize,
+    names: Option<ListOf<Text>>,
+}
+
+impl Model for MemFiles {
+    ghost use Rattle.gtm_base.specs.Memory.{MemoryFiles};
+
+    ghost Value = { MemoryFiles };
+
+    ghost use Rattle.gtm_base.specs.MemoryView.{memory_files, HasPlace};
+
+    ghost view = { memory_files };
+
+    ghost invariant = { HasPlace };
+}
+
+impl MemFiles {
+    /// No files, and no call that is to fail. Takes no memory.
+    pub fn new(alloc: Global) -> MemFiles
+        ensures { result ≡ record { held = []; failing = []; calls = 0; faults = 0; file = None; done = 0; names = Some [] } }
+    {
+        MemFiles {
+            alloc,
+            files: Keyed::new(alloc),
+            failing: Vec::new(alloc),
+            calls: 0,
+            faults: 0,
+            file: None,
+            done: 0,
+            names: Some(ListOf::new(alloc)),
+        }
+    }
+
+    /// Holds these bytes under this name, in place of what it held there. Where memory is wanting, all stays as it was.
+    pub fn add(&mut self, name: &str, bytes: &[u8]) -> Result<(), OutOfMemory>
+        ensures ok { OnOk result (self.new ≡ record self.old { held = with_file self.old.held (chars name.now) bytes.now }) }
+        ensures err { OnErr result (self.new ≡ self.old) }
+    {
+        let bytes = ListOf::from_slice(self.alloc, bytes)?;
+        match self.files.place_of(name) {
+            Some(at) => {
+                *self.files.value_mut(at) = bytes;
+                Ok(())
+            },
+            None => self.files.push(Text::from_str(self.alloc, name)?, bytes),
+        }
+    }
+
+    /// Lets this call of `open` and `read` fail, counted together from 1. Where memory is wanting, all stays as it was.
+    pub fn fail_at(&mut self, call: u64) -> Result<(), OutOfMemory>
+        ensures ok { OnOk result (self.new ≡ record self.old { failing = self.old.failing ++ call ∷ [] }) }
+        ensures err { OnErr result (self.new ≡ self.old) }
+    {
+        self.failing.push(call)?;
+        Ok(())
+    }
+}
+
+impl Files for MemFiles {
+    ghost use Rattle.std.specs.Prelude.{Some, is_some};
+    ghost use Rattle.gtm_base.specs.Keys.{value_of};
+    ghost use Rattle.gtm_base.specs.Memory.{name_in, left_in};
+
+    ghost held = { λ files. Some (λ name. value_of name files.held) };
+
+    ghost is_open = { λ files. is_some files.file };
+
+    ghost open_name = { name_in };
+
+    ghost left = { left_in };
+
+    ghost names = { λ files. files.names };
+
+    ghost faults = { λ files. files.faults };
+
+    fn open(&mut self, name: &str) -> Result<(), FileFailed> {
+        self.file = None;
+        keep_name(self.alloc, &mut self.names, name);
+        let fails = fails_now(self.failing.as_slice(), &mut self.calls);
+        match self.files.place_of(name) {
+            None => Err(FileFailed),
+            Some(_) if fails => {
+                self.faults = self.faults.saturating_add(1);
+                Err(FileFailed)
+            },
+            Some(place) => {
+                self.file = Some(place);
+                self.done = 0;
+                Ok(())
+            },
+        }
+    }
+
+    fn read(&mut self, piece: &mut [u8]) -> Result<usize, FileFailed> {
+        if fails_now(self.failing.as_slice(), &mut self.calls) {
+            self.faults = self.faults.saturating_add(1);
+            return Err(FileFailed);
+        }
+        let Some(place) = self.file else {
+            unreachable!()
+        };
+        let left = left_of(self.files.as_slice(), place, self.done);
+        let count = copy_front(left, piece);
+        self.done += count;
+        Ok(count)
+    }
+
+    fn faults(&self) -> u64 {
+        self.faults
+    }
+}
+
+// Whether the call that begins here is to fail.
+fn fails_now(failing: &[u64], calls: &mut u64) -> bool {
+    *calls = calls.saturating_add(1);
+    failing.contains(calls)
+}
+
+// What was not read yet of the file at this place.
+fn left_of(files: &[(Text, ListOf<u8>)], place: usize, done: usize) -> &[u8]
+    requires { place < length files.now }
+    ensures bytes { option_map (λ pair. drop done pair.1) (slice_get files.now place) ≡ Some result.now }
+    ensures short { done + length result.now < 2 ^ 64 }
+{
+    let bytes = files[place].1.as_slice();
+    if done < bytes.len() {
+        &bytes[done..]
+    } else {
+        &bytes[..0]
+    }
+}
+
+// Copies as much of the front as there is room for.
+fn copy_front(left: &[u8], piece: &mut [u8]) -> usize
+    ensures within { result ≤ length left.now }
+    ensures room { result ≤ length piece.new }
+    ensures front { take result piece.new ≡ take result left.now }
+    ensures end { 0 < length piece.old → result ≡ 0 → left.now ≡ [] }
+{
+    let count = left.len().min(piece.len());
+    piece[..count].copy_from_slice(&left[..count]);
+    count
+}

@@ -1,0 +1,10 @@
+pub mod Converted
+pub mod Distincts
+pub mod Dots
+pub mod Indexes
+pub mod Joined
+pub mod Levels
+pub mod Lists
+pub mod Members
+pub mod Shallow
+pub mod Wholes
