@@ -1,0 +1,10 @@
+pub mod Afters
+pub mod Determined
+pub mod Items
+pub mod Members
+pub mod MergedKeys
+pub mod Nested
+pub mod Parts
+pub mod Results
+pub mod Shapes
+pub mod Steps

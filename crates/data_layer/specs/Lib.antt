@@ -1,0 +1,4 @@
+pub mod After
+pub mod Layer
+pub mod Merge
+pub mod Rows

@@ -1,0 +1,111 @@
+ghost use Rattle.std.specs.Prelude.{◌≡◌, ◌≤◌, ◌++◌, ◌∷◌, [], codes, decimal, IsTrue, OnOk, IfOk, IsErrOf};
+ghost use Rattle.gtm_base.specs.Ascii.{is_all_ascii};
+ghost use Rattle.gtm_base.specs.Causes.{Rose};
+ghost use Rattle.gtm_base.specs.Outside.{and_then, TookFront};
+ghost use Rattle.run_log.specs.LineOf.{line_of};
+ghost use Rattle.run_log.specs.Lines.{line_text, line_bytes};
+
+use crate::Line;
+use gtm_base::{OutOfMemory, Sink, SinkFailed, Text, put};
+use gtm_data::{write_json, write_quoted};
+use std::alloc::Global;
+
+/// Why a line was not written.
+#[derive(Clone, Copy, Debug, PartialEq, Eq)]
+pub enum LineEnd {
+    /// Memory was wanting. Nothing was written.
+    OutOfMemory,
+    /// The sink failed. It took a front of the line.
+    SinkFault,
+}
+
+impl From<OutOfMemory> for LineEnd {
+    ghost use Rattle.std.specs.Prelude.{◌≡◌};
+    ghost use Rattle.run_log.specs.declared.writing.LineEnd.TheVariants.{OutOfMemory};
+
+    ghost from_gives = { λ _ end. end ≡ OutOfMemory };
+
+    fn from(_: OutOfMemory) -> Self {
+        LineEnd::OutOfMemory
+    }
+}
+
+/// Writes a line with its LF, by one `put`.
+///
+/// `SinkFault` comes only with a rise of the sink's count.
+#[tactic(auto, unfolding(crate::specs::Lines::line_bytes))]
+pub fn put_line<S: Sink>(alloc: Global, line: &Line, out: &mut S) -> Result<(), LineEnd>
+    ensures ok { OnOk result (S.taken out.new ≡ and_then (S.taken out.old) (line_bytes (line_of line.now))) }
+    ensures front { TookFront (S.taken out.old) (S.taken out.new) (line_bytes (line_of line.now)) }
+    ensures memory { IsErrOf result LineEnd.OutOfMemory → S.taken out.new ≡ S.taken out.old }
+    ensures later { S.faults out.old ≤ S.faults out.new }
+    ensures failed { IsErrOf result LineEnd.SinkFault → Rose (S.faults out.old) (S.faults out.new) }
+    ensures kept { OnOk result (S.faults out.new ≡ S.faults out.old) }
+{
+    let text = whole_line(alloc, line)?;
+    match put(out, text.as_str().as_bytes()) {
+        Ok(()) => Ok(()),
+        Err(SinkFailed) => Err(LineEnd::SinkFault),
+    }
+}
+
+fn whole_line(alloc: Global, line: &Line) -> Result<Text, OutOfMemory>
+    ensures { IfOk result (λ text. text ≡ line_text (line_of line.now) ++ 10 ∷ []) }
+{
+    let mut text = Text::new(alloc);
+    write_line(alloc, &mut text, line)?;
+    text.push('\n')?;
+    Ok(text)
+}
+
+fn write_line(alloc: Global, text: &mut Text, line: &Line) -> Result<(), OutOfMemory>
+    ensures { OnOk result (text.new ≡ text.old ++ line_text (line_of line.now)) }
+{
+    match line {
+        Line::Message { value, ignored } => {
+            text.push_word("message ")?;
+            write_json(alloc, text, value)?;
+            if *ignored {
+                text.push_word(" ignored")?;
+            }
+        },
+        Line::Event { event, name } => {
+            write_count(alloc, text, "event ", *event)?;
+            text.push_word(" ")?;
+            write_quoted(text, name.as_str())?;
+        },
+        Line::Model { value } => {
+            text.push_word("model ")?;
+            write_json(alloc, text, value)?;
+        },
+        Line::End {
+            steps,
+            jobs,
+            events,
+            starts,
+            ok,
+            fail,
+            denied,
+            faults,
+        } => {
+            write_count(alloc, text, "end steps=", *steps)?;
+            write_count(alloc, text, " jobs=", *jobs)?;
+            write_count(alloc, text, " events=", *events)?;
+            write_count(alloc, text, " starts=", *starts)?;
+            write_count(alloc, text, " ok=", *ok)?;
+            write_count(alloc, text, " fail=", *fail)?;
+            write_count(alloc, text, " denied=", *denied)?;
+            write_count(alloc, text, " faults=", *faults)?;
+        },
+    }
+    Ok(())
+}
+
+// A word, and a number in digits.
+fn write_count(alloc: Global, text: &mut Text, word: &str, count: u64) -> Result<(), OutOfMemory>
+    requires { IsTrue (is_all_ascii word.now) }
+    ensures { OnOk result (text.new ≡ text.old ++ word.now ++ decimal count) }
+{
+    text.push_word(word)?;
+    text.push_unsigned(alloc, count)
+}
