@@ -1,0 +1,12 @@
+pub mod Answers
+pub mod Enough
+pub mod Export
+pub mod LineFailure
+pub mod Outcome
+pub mod ReadingOf
+pub mod Report
+pub mod Run
+pub mod StateOf
+pub mod Trace
+pub mod Turn
+pub mod Words

@@ -1,0 +1,294 @@
+use crate::{run_over, run_words};
+use std::test::Fail;
+
+const EXPORT: &[u8] = b"{\"exportFormatVersion\":2,\"containerVersion\":{}}";
+
+// A trace, its status, what it prints, and the line on standard error.
+struct Row {
+    name: &'static str,
+    trace: &'static [u8],
+    status: u8,
+    out: &'static [u8],
+    err: &'static [u8],
+}
+
+const ROWS: &[Row] = &[
+    Row {
+        name: "an empty trace",
+        trace: b"",
+        status: 0,
+        out: b"model {}\nend steps=0 jobs=0 events=0 starts=0 ok=0 fail=0 denied=0 faults=0\n",
+        err: b"",
+    },
+    Row {
+        name: "quotes and backslashes",
+        trace: b"{\"push\":{\"q\":\"a\\\"b\",\"s\":\"c\\\\d\"}}\n",
+        status: 0,
+        out: b"message {\"q\":\"a\\\"b\",\"s\":\"c\\\\d\"}\nmodel {\"q\":\"a\\\"b\",\"s\":\"c\\\\d\"}\nend steps=1 jobs=1 events=0 starts=0 ok=0 fail=0 denied=0 faults=0\n",
+        err: b"",
+    },
+    Row {
+        name: "control characters",
+        trace: b"{\"push\":{\"c\":\"\\b\\f\\n\\r\\t\\u0001\\u001F\\u007f\"}}\n",
+        status: 0,
+        out: b"message {\"c\":\"\\b\\f\\n\\r\\t\\u0001\\u001f\x7f\"}\nmodel {\"c\":\"\\b\\f\\n\\r\\t\\u0001\\u001f\x7f\"}\nend steps=1 jobs=1 events=0 starts=0 ok=0 fail=0 denied=0 faults=0\n",
+        err: b"",
+    },
+    Row {
+        name: "a character past U+FFFF",
+        trace: b"{\"push\":{\"u\":\"\\ud83d\\ude00\"}}\n",
+        status: 0,
+        out: b"message {\"u\":\"\xf0\x9f\x98\x80\"}\nmodel {\"u\":\"\xf0\x9f\x98\x80\"}\nend steps=1 jobs=1 events=0 starts=0 ok=0 fail=0 denied=0 faults=0\n",
+        err: b"",
+    },
+    Row {
+        name: "CR LF, blank lines and no last LF",
+        trace: b"{\"push\":{\"a\":1}}\r\n\r\n \t\n\n{\"push\":{\"b\":true}}",
+        status: 0,
+        out: b"message {\"a\":1}\nmessage {\"b\":true}\nmodel {\"a\":1,\"b\":true}\nend steps=2 jobs=2 events=0 starts=0 ok=0 fail=0 denied=0 faults=0\n",
+        err: b"",
+    },
+    Row {
+        name: "a key given twice",
+        trace: b"{\"push\":{\"a\":1,\"a\":2}}\n",
+        status: 0,
+        out: b"message {\"a\":2}\nmodel {\"a\":2}\nend steps=1 jobs=1 events=0 starts=0 ok=0 fail=0 denied=0 faults=0\n",
+        err: b"",
+    },
+    Row {
+        name: "a present key keeps its place",
+        trace: b"{\"push\":{\"b\":1,\"c\":2}}\n{\"push\":{\"c\":3,\"a\":null}}\n{\"push\":{\"b\":\"x\"}}\n",
+        status: 0,
+        out: b"message {\"b\":1,\"c\":2}\nmessage {\"a\":null,\"c\":3}\nmessage {\"b\":\"x\"}\nmodel {\"b\":\"x\",\"c\":3,\"a\":null}\nend steps=3 jobs=3 events=0 starts=0 ok=0 fail=0 denied=0 faults=0\n",
+        err: b"",
+    },
+    Row {
+        name: "events are counted",
+        trace: b"{\"push\":{\"event\":\"x\"}}\n{\"push\":{\"event\":5}}\n{\"push\":{\"event\":\"y\",\"n\":-9007199254740991}}\n",
+        status: 0,
+        out: b"message {\"event\":\"x\"}\nevent 1 \"x\"\nmessage {\"event\":5}\nmessage {\"event\":\"y\",\"n\":-9007199254740991}\nevent 2 \"y\"\nmodel {\"event\":\"y\",\"n\":-9007199254740991}\nend steps=3 jobs=3 events=2 starts=0 ok=0 fail=0 denied=0 faults=0\n",
+        err: b"",
+    },
+    Row {
+        name: "no JSON in the second line",
+        trace: b"{\"push\":{\"a\":1}}\n{\"push\":\n{\"push\":{\"a\":2}}\n",
+        status: 5,
+        out: b"message {\"a\":1}\n",
+        err: b"gtm_replay: trace: line 2 rule 2\n",
+    },
+    Row {
+        name: "a Map within a message",
+        trace: b"{\"push\":{\"a\":{\"b\":1}}}\n",
+        status: 5,
+        out: b"",
+        err: b"gtm_replay: trace: line 1 rule 8\n",
+    },
+    Row {
+        name: "a List within a message, behind a blank line",
+        trace: b"{\"push\":{\"a\":1}}\n\n{\"push\":{\"a\":[1]}}\n",
+        status: 5,
+        out: b"message {\"a\":1}\n",
+        err: b"gtm_replay: trace: line 3 rule 8\n",
+    },
+    Row {
+        name: "a dotted key",
+        trace: b"{\"push\":{\"a.b\":1}}\n",
+        status: 5,
+        out: b"",
+        err: b"gtm_replay: trace: line 1 rule 8\n",
+    },
+    Row {
+        name: "the first event of a page",
+        trace: b"{\"push\":{\"event\":\"gtm.js\"}}\n",
+        status: 5,
+        out: b"",
+        err: b"gtm_replay: trace: line 1 rule 8\n",
+    },
+    Row {
+        name: "a number that is not whole",
+        trace: b"{\"push\":{\"a\":1.5}}\n",
+        status: 5,
+        out: b"",
+        err: b"gtm_replay: trace: line 1 rule 8\n",
+    },
+    Row {
+        name: "a number out of range",
+        trace: b"{\"push\":{\"a\":9007199254740992}}\n",
+        status: 5,
+        out: b"",
+        err: b"gtm_replay: trace: line 1 rule 8\n",
+    },
+    Row {
+        name: "a push of a number",
+        trace: b"{\"push\":5}\n",
+        status: 5,
+        out: b"",
+        err: b"gtm_replay: trace: line 1 rule 8\n",
+    },
+    Row {
+        name: "another form",
+        trace: b"{\"page\":{}}\n",
+        status: 5,
+        out: b"",
+        err: b"gtm_replay: trace: line 1 rule 8\n",
+    },
+    Row {
+        name: "a member too many",
+        trace: b"{\"push\":{\"a\":1},\"x\":1}\n",
+        status: 5,
+        out: b"",
+        err: b"gtm_replay: trace: line 1 rule 8\n",
+    },
+    Row {
+        name: "no object",
+        trace: b"[\"push\"]\n",
+        status: 5,
+        out: b"",
+        err: b"gtm_replay: trace: line 1 rule 8\n",
+    },
+];
+
+#[test]
+fn traces(rt: HostRuntime) -> Result<(), Fail> {
+    for row in ROWS {
+        let ran = run_over(rt.alloc(), EXPORT, row.trace, 0)?;
+        assert_eq!(rt; ran.status.code(), row.status, "{}", row.name);
+        assert_eq!(rt; ran.out.bytes(), row.out, "{}", row.name);
+        assert_eq!(rt; ran.err.bytes(), row.err, "{}", row.name);
+    }
+    Ok(())
+}
+
+// An export, its status, and the line on standard error.
+struct ExportRow {
+    name: &'static str,
+    export: &'static [u8],
+    status: u8,
+    err: &'static [u8],
+}
+
+const EXPORTS: &[ExportRow] = &[
+    ExportRow {
+        name: "no JSON",
+        export: b"{\"exportFormatVersion\":2,\"containerVers",
+        status: 4,
+        err: b"gtm_replay: export: rule 2 at \"\"\n",
+    },
+    ExportRow {
+        name: "nothing",
+        export: b"",
+        status: 4,
+        err: b"gtm_replay: export: rule 2 at \"\"\n",
+    },
+    ExportRow {
+        name: "another format",
+        export: b"{\"exportFormatVersion\":1,\"containerVersion\":{}}",
+        status: 4,
+        err: b"gtm_replay: export: rule 29 at \"\"\n",
+    },
+    ExportRow {
+        name: "no container version",
+        export: b"{\"exportFormatVersion\":2}",
+        status: 4,
+        err: b"gtm_replay: export: rule 29 at \"\"\n",
+    },
+    ExportRow {
+        name: "a tag",
+        export: b"{\"exportFormatVersion\":2,\"containerVersion\":{\"tag\":[{}]}}",
+        status: 4,
+        err: b"gtm_replay: export: rule 29 at \"\"\n",
+    },
+    ExportRow {
+        name: "a list that is none",
+        export: b"{\"exportFormatVersion\":2,\"containerVersion\":{\"trigger\":{}}}",
+        status: 4,
+        err: b"gtm_replay: export: rule 29 at \"\"\n",
+    },
+    ExportRow {
+        name: "empty lists",
+        export: b"{\"exportFormatVersion\":2,\"x\":1.5,\"containerVersion\":{\"tag\":[],\"trigger\":[],\"variable\":[],\"builtInVariable\":[],\"customTemplate\":[]}}",
+        status: 0,
+        err: b"",
+    },
+];
+
+#[test]
+fn exports(rt: HostRuntime) -> Result<(), Fail> {
+    for row in EXPORTS {
+        let ran = run_over(rt.alloc(), row.export, b"", 0)?;
+        assert_eq!(rt; ran.status.code(), row.status, "{}", row.name);
+        assert_eq!(rt; ran.err.bytes(), row.err, "{}", row.name);
+        assert_eq!(rt; ran.out.bytes().is_empty(), row.status != 0, "{}", row.name);
+    }
+    Ok(())
+}
+
+// Words where no file is, their status, and the line on standard error.
+struct WordsRow {
+    words: &'static [&'static str],
+    status: u8,
+    err: &'static [u8],
+}
+
+const USAGE: &[u8] = b"usage: gtm_replay run EXPORT TRACE | gtm_replay self N\n";
+
+const WORDS: &[WordsRow] = &[
+    WordsRow {
+        words: &[],
+        status: 2,
+        err: USAGE,
+    },
+    WordsRow {
+        words: &["run", "e.json"],
+        status: 2,
+        err: USAGE,
+    },
+    WordsRow {
+        words: &["self", "3"],
+        status: 2,
+        err: USAGE,
+    },
+    WordsRow {
+        words: &["run", "e.json", "t.json"],
+        status: 3,
+        err: b"gtm_replay: cannot read \"e.json\"\n",
+    },
+    WordsRow {
+        words: &["run", "a\"b\\c", "t.json"],
+        status: 3,
+        err: b"gtm_replay: cannot read \"a\\\"b\\\\c\"\n",
+    },
+];
+
+#[test]
+fn words(rt: HostRuntime) -> Result<(), Fail> {
+    for row in WORDS {
+        let ran = run_words(rt.alloc(), row.words)?;
+        assert_eq!(rt; ran.status.code(), row.status);
+        assert_eq!(rt; ran.err.bytes(), row.err);
+        assert!(rt; ran.out.bytes().is_empty());
+    }
+    Ok(())
+}
+
+// The second write fails.
+#[test]
+fn a_failed_write_ends_the_run(rt: HostRuntime) -> Result<(), Fail> {
+    let trace = b"{\"push\":{\"a\":1}}\n{\"push\":{\"a\":2}}";
+    let ran = run_over(rt.alloc(), EXPORT, trace, 2)?;
+    assert_eq!(rt; ran.status.code(), 8);
+    assert_eq!(rt; ran.out.bytes(), b"message {\"a\":1}\n".as_slice());
+    assert_eq!(rt; ran.err.bytes(), b"gtm_replay: cannot write\n".as_slice());
+    Ok(())
+}
+
+// The longest line is read, and one byte more is too much.
+#[test]
+fn long_lines(rt: HostRuntime) -> Result<(), Fail> {
+    for (size, status) in [(1_048_576, 0), (1_048_577, 5)] {
+        let line = vec![in rt.alloc(); b' '; size]?;
+        let ran = run_over(rt.alloc(), EXPORT, line.as_slice(), 0)?;
+        assert_eq!(rt; ran.status.code(), status);
+    }
+    Ok(())
+}
