@@ -1,9 +1,9 @@
 -- The steps of a trace.
-use Rattle.std.specs.Prelude.{ℕ, ◌+◌, nat_lt, ◌==◌, ◌&&◌, ◌||◌, not, List, [], ◌∷◌, ◌++◌, length, Bool, true, false, Option, Some, None, option_and_then, if◌then◌else◌, codes, encode_utf8_all}
-use Rattle.std.specs.List.{list_all, list_any}
+use Rattle.std.specs.Prelude.{ℕ, ◌+◌, nat_lt, ◌==◌, ◌&&◌, ◌||◌, not, List, [], ◌∷◌, ◌++◌, length, Bool, true, false, Option, Some, None, option_and_then, if◌then◌else◌, codes}
+use Rattle.std.specs.List.{list_all}
 use Rattle.std.specs.Str.{bytes_eq}
 use Rattle.serde_json.specs.Data as json
-use Rattle.gtm_data.specs.Tree.{Tree, list, object, Entries, none, entry, text_in}
+use Rattle.gtm_data.specs.Tree.{Tree, list, text_in}
 use Rattle.gtm_data.specs.Paths.{member_of}
 use Rattle.gtm_data.specs.Plain.{plain}
 use Rattle.gtm_cli.specs.Export.{json_of}
@@ -51,28 +51,13 @@ abbrev pub is_text : Option (List ℕ) → List ℕ → Bool
 is_text None other = false
 is_text (Some text) other = bytes_eq text other
 
--- neither List nor Map
-abbrev pub is_leaf : Tree → Bool
-is_leaf (list ts) = false
-is_leaf (object es) = false
-is_leaf _ = true
+abbrev pub is_list : Tree → Bool
+is_list (list ts) = true
+is_list _ = false
 
--- a dot among its UTF-8 bytes
-abbrev pub has_dot : List ℕ → Bool
-has_dot key = list_any (λ b. b == 46) (encode_utf8_all key)
-
-abbrev pub are_flat : Entries → Bool
-are_flat none = true
-are_flat (entry key value es) = not (has_dot key) && is_leaf value && are_flat es
-
--- a Map whose keys have no dot and whose values are neither Lists nor Maps
-abbrev pub is_flat : Tree → Bool
-is_flat (object es) = are_flat es
-is_flat _ = false
-
--- a push that is taken so far: a flat Map that is not the first event of a page
+-- a push that is taken so far: no List, and not the first event of a page
 abbrev pub is_built : Tree → Bool
-is_built message = is_flat message && not (is_text (event_name message) (codes "gtm.js"))
+is_built message = not (is_list message) && not (is_text (event_name message) (codes "gtm.js"))
 
 abbrev pub push_of : Option Tree → Reading
 push_of None = bad 8

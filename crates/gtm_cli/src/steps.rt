@@ -1,14 +1,14 @@
 ghost use Rattle.std.specs.Prelude.{◌≡◌, ◌+◌, ◌<◌, ◌^◌, codes, IfOk, option_map, Some, length};
 ghost use Rattle.serde_json.specs.View.{view, members_view};
 ghost use Rattle.std.specs.Option.{option_copied};
-ghost use Rattle.gtm_data.specs.Tree.{tree_of, entries_of};
+ghost use Rattle.gtm_data.specs.Tree.{tree_of};
 ghost use Rattle.gtm_data.specs.Plain.{plain};
 ghost use Rattle.gtm_cli.specs.ReadingOf.{reading_of};
-ghost use Rattle.gtm_cli.specs.Trace.{read_line, step_in, form_of, push_of, is_built, is_flat, are_flat, is_leaf, has_dot, is_text, event_name, is_blank};
+ghost use Rattle.gtm_cli.specs.Trace.{read_line, step_in, form_of, push_of, is_built, is_list, is_text, event_name, is_blank};
 
 use crate::json::json_of;
 use gtm_base::{OutOfMemory, Text};
-use gtm_data::{Data, DataEnd, Members, from_json};
+use gtm_data::{Data, DataEnd, from_json};
 use serde_json::{Map, Value};
 use std::alloc::Global;
 
@@ -110,7 +110,16 @@ fn push_of(alloc: Global, pushed: &Value) -> Result<LineRead, OutOfMemory>
 fn is_built(message: &Data) -> bool
     ensures { result ≡ is_built (tree_of message.now) }
 {
-    is_flat(message) && !is_first_event(message)
+    !is_list(message) && !is_first_event(message)
+}
+
+fn is_list(message: &Data) -> bool
+    ensures { result ≡ is_list (tree_of message.now) }
+{
+    match message {
+        Data::List(_) => true,
+        _ => false,
+    }
 }
 
 // Whether it is the first event of a page.
@@ -130,41 +139,5 @@ pub fn event_name(message: &Data) -> Option<&Text>
     match message.member("event") {
         Some(value) => value.as_text(),
         None => None,
-    }
-}
-
-fn is_flat(message: &Data) -> bool
-    ensures { result ≡ is_flat (tree_of message.now) }
-{
-    match message {
-        Data::Map(members) => are_flat(members),
-        _ => false,
-    }
-}
-
-fn are_flat(members: &Members) -> bool
-    ensures { result ≡ are_flat (entries_of members.now.pairs) }
-{
-    for member in members.as_slice() {
-        if has_dot(&member.0) || !is_leaf(&member.1) {
-            return false;
-        }
-    }
-    true
-}
-
-fn has_dot(key: &Text) -> bool
-    ensures { result ≡ has_dot key.now }
-{
-    key.as_str().as_bytes().contains(&b'.')
-}
-
-fn is_leaf(value: &Data) -> bool
-    ensures { result ≡ is_leaf (tree_of value.now) }
-{
-    match value {
-        Data::List(_) => false,
-        Data::Map(_) => false,
-        _ => true,
     }
 }

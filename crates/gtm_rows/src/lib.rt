@@ -8,6 +8,8 @@ pub use running::{Ran, run_over, run_words};
 #[cfg(test)]
 mod calls;
 #[cfg(test)]
+mod merges;
+#[cfg(test)]
 mod outside;
 #[cfg(test)]
 mod rows;

@@ -21,6 +21,20 @@ const ROWS: &[Row] = &[
         err: b"",
     },
     Row {
+        name: "Lists are merged by index",
+        trace: b"{\"push\":{\"a\":[1,2,3]}}\n{\"push\":{\"a\":[9]}}\n",
+        status: 0,
+        out: b"message {\"a\":[1,2,3]}\nmessage {\"a\":[9]}\nmodel {\"a\":[9,2,3]}\nend steps=2 jobs=2 events=0 starts=0 ok=0 fail=0 denied=0 faults=0\n",
+        err: b"",
+    },
+    Row {
+        name: "Maps are merged by key",
+        trace: b"{\"push\":{\"a.b\":1}}\n{\"push\":{\"a\":{\"c\":2}}}\n",
+        status: 0,
+        out: b"message {\"a.b\":1}\nmessage {\"a\":{\"c\":2}}\nmodel {\"a\":{\"b\":1,\"c\":2}}\nend steps=2 jobs=2 events=0 starts=0 ok=0 fail=0 denied=0 faults=0\n",
+        err: b"",
+    },
+    Row {
         name: "quotes and backslashes",
         trace: b"{\"push\":{\"q\":\"a\\\"b\",\"s\":\"c\\\\d\"}}\n",
         status: 0,
@@ -56,17 +70,24 @@ const ROWS: &[Row] = &[
         err: b"",
     },
     Row {
-        name: "a present key keeps its place",
-        trace: b"{\"push\":{\"b\":1,\"c\":2}}\n{\"push\":{\"c\":3,\"a\":null}}\n{\"push\":{\"b\":\"x\"}}\n",
+        name: "events are counted",
+        trace: b"{\"push\":{\"event\":\"x\"}}\n{\"push\":{\"event\":5}}\n{\"push\":{\"event\":{\"event\":\"z\"}}}\n{\"push\":{\"event\":\"y\"}}\n",
         status: 0,
-        out: b"message {\"b\":1,\"c\":2}\nmessage {\"a\":null,\"c\":3}\nmessage {\"b\":\"x\"}\nmodel {\"b\":\"x\",\"c\":3,\"a\":null}\nend steps=3 jobs=3 events=0 starts=0 ok=0 fail=0 denied=0 faults=0\n",
+        out: b"message {\"event\":\"x\"}\nevent 1 \"x\"\nmessage {\"event\":5}\nmessage {\"event\":{\"event\":\"z\"}}\nmessage {\"event\":\"y\"}\nevent 2 \"y\"\nmodel {\"event\":\"y\"}\nend steps=4 jobs=4 events=2 starts=0 ok=0 fail=0 denied=0 faults=0\n",
         err: b"",
     },
     Row {
-        name: "events are counted",
-        trace: b"{\"push\":{\"event\":\"x\"}}\n{\"push\":{\"event\":5}}\n{\"push\":{\"event\":\"y\",\"n\":-9007199254740991}}\n",
+        name: "what is no Map is ignored",
+        trace: b"{\"push\":5}\n{\"push\":null}\n{\"push\":\"x\"}\n",
         status: 0,
-        out: b"message {\"event\":\"x\"}\nevent 1 \"x\"\nmessage {\"event\":5}\nmessage {\"event\":\"y\",\"n\":-9007199254740991}\nevent 2 \"y\"\nmodel {\"event\":\"y\",\"n\":-9007199254740991}\nend steps=3 jobs=3 events=2 starts=0 ok=0 fail=0 denied=0 faults=0\n",
+        out: b"message 5 ignored\nmessage null ignored\nmessage \"x\" ignored\nmodel {}\nend steps=3 jobs=3 events=0 starts=0 ok=0 fail=0 denied=0 faults=0\n",
+        err: b"",
+    },
+    Row {
+        name: "the ends of the range",
+        trace: b"{\"push\":{\"a\":9007199254740991,\"b\":-9007199254740991}}\n",
+        status: 0,
+        out: b"message {\"a\":9007199254740991,\"b\":-9007199254740991}\nmodel {\"a\":9007199254740991,\"b\":-9007199254740991}\nend steps=1 jobs=1 events=0 starts=0 ok=0 fail=0 denied=0 faults=0\n",
         err: b"",
     },
     Row {
@@ -77,25 +98,11 @@ const ROWS: &[Row] = &[
         err: b"gtm_replay: trace: line 2 rule 2\n",
     },
     Row {
-        name: "a Map within a message",
-        trace: b"{\"push\":{\"a\":{\"b\":1}}}\n",
-        status: 5,
-        out: b"",
-        err: b"gtm_replay: trace: line 1 rule 8\n",
-    },
-    Row {
-        name: "a List within a message, behind a blank line",
-        trace: b"{\"push\":{\"a\":1}}\n\n{\"push\":{\"a\":[1]}}\n",
+        name: "a List, behind a blank line",
+        trace: b"{\"push\":{\"a\":1}}\n\n{\"push\":[1]}\n",
         status: 5,
         out: b"message {\"a\":1}\n",
         err: b"gtm_replay: trace: line 3 rule 8\n",
-    },
-    Row {
-        name: "a dotted key",
-        trace: b"{\"push\":{\"a.b\":1}}\n",
-        status: 5,
-        out: b"",
-        err: b"gtm_replay: trace: line 1 rule 8\n",
     },
     Row {
         name: "the first event of a page",
@@ -105,22 +112,50 @@ const ROWS: &[Row] = &[
         err: b"gtm_replay: trace: line 1 rule 8\n",
     },
     Row {
-        name: "a number that is not whole",
-        trace: b"{\"push\":{\"a\":1.5}}\n",
-        status: 5,
-        out: b"",
-        err: b"gtm_replay: trace: line 1 rule 8\n",
-    },
-    Row {
-        name: "a number out of range",
+        name: "a number past the range",
         trace: b"{\"push\":{\"a\":9007199254740992}}\n",
         status: 5,
         out: b"",
         err: b"gtm_replay: trace: line 1 rule 8\n",
     },
     Row {
-        name: "a push of a number",
-        trace: b"{\"push\":5}\n",
+        name: "a number before the range",
+        trace: b"{\"push\":{\"a\":[-9007199254740992]}}\n",
+        status: 5,
+        out: b"",
+        err: b"gtm_replay: trace: line 1 rule 8\n",
+    },
+    Row {
+        name: "a number with a fraction",
+        trace: b"{\"push\":{\"a\":1.0}}\n",
+        status: 5,
+        out: b"",
+        err: b"gtm_replay: trace: line 1 rule 8\n",
+    },
+    Row {
+        name: "a number with an exponent",
+        trace: b"{\"push\":{\"a\":1e2}}\n",
+        status: 5,
+        out: b"",
+        err: b"gtm_replay: trace: line 1 rule 8\n",
+    },
+    Row {
+        name: "a negative zero",
+        trace: b"{\"push\":{\"a\":-0}}\n",
+        status: 5,
+        out: b"",
+        err: b"gtm_replay: trace: line 1 rule 8\n",
+    },
+    Row {
+        name: "twenty digits",
+        trace: b"{\"push\":{\"a\":12345678901234567890}}\n",
+        status: 5,
+        out: b"",
+        err: b"gtm_replay: trace: line 1 rule 8\n",
+    },
+    Row {
+        name: "data of depth 65",
+        trace: b"{\"push\":{\"a\":[[[[[[[[[[[[[[[[[[[[[[[[[[[[[[[[[[[[[[[[[[[[[[[[[[[[[[[[[[[[[[[[]]]]]]]]]]]]]]]]]]]]]]]]]]]]]]]]]]]]]]]]]]]]]]]]]]]]]]]]]]]]]]]]}}\n",
         status: 5,
         out: b"",
         err: b"gtm_replay: trace: line 1 rule 8\n",
@@ -268,17 +303,6 @@ fn words(rt: HostRuntime) -> Result<(), Fail> {
         assert_eq!(rt; ran.err.bytes(), row.err);
         assert!(rt; ran.out.bytes().is_empty());
     }
-    Ok(())
-}
-
-// The second write fails.
-#[test]
-fn a_failed_write_ends_the_run(rt: HostRuntime) -> Result<(), Fail> {
-    let trace = b"{\"push\":{\"a\":1}}\n{\"push\":{\"a\":2}}";
-    let ran = run_over(rt.alloc(), EXPORT, trace, 2)?;
-    assert_eq!(rt; ran.status.code(), 8);
-    assert_eq!(rt; ran.out.bytes(), b"message {\"a\":1}\n".as_slice());
-    assert_eq!(rt; ran.err.bytes(), b"gtm_replay: cannot write\n".as_slice());
     Ok(())
 }
 
