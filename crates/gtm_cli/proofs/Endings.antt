@@ -167,3 +167,35 @@ headline r s held names e t old new files files_now out out_now (inl is) f0 f1 o
     (λ u. elim (of_export u) [ inl rose ↦ not_risen files files_now f0 f1 rose | inr lacks ↦ not_lacking held names.export e has_export lacks ])
     (λ u. elim (of_trace u) [ inl rose ↦ not_risen files files_now f0 f1 rose | inr lacks ↦ not_lacking held names.trace t has_trace lacks ])
     (λ u. not_risen out out_now o0 o1 (of_sink u))
+
+-- an accepted export and a trace without a bad line
+pub complete : (s : Status) (e t : List ℕ) (old new : Option (List ℕ)) → first_broken e ≡ None → (trace_of t).refusal ≡ None → (s ≡ status.OutOfMemory) ⊎ IsModels e t s old new
+    → (s ≡ status.OutOfMemory) ⊎ ((s ≡ status.Done) × (new ≡ and_then old (run_text (trace_of t))))
+complete s e t old new accepted whole (inl memory) = inl memory
+complete s e t old new accepted whole (inr models) =
+    inr (models.status ∙ (λ i. status_unless (accepted i) (whole i)), models.text ∙ (λ i. and_then old (text_unless (accepted i) (run_text (trace_of t)))))
+
+bad_line_text_of : (r : Ending) (t : List ℕ) (line rule : ℕ) (old new : Option (List ℕ)) → status_of r ≡ status.TraceRefused line rule → TraceAnswer t r old new → new ≡ and_then old (run_text (trace_of t))
+bad_line_text_of (Ok done) t line rule old new is trace = absurd (cc is)
+bad_line_text_of (Err ExportUnread) t line rule old new is trace = absurd (cc is)
+bad_line_text_of (Err TraceUnread) t line rule old new is trace = absurd (cc is)
+bad_line_text_of (Err (ExportRefused refusal)) t line rule old new is trace = absurd (cc is)
+bad_line_text_of (Err (TraceRefused bad)) t line rule old new is trace = trace.1
+bad_line_text_of (Err Unwritten) t line rule old new is trace = absurd (cc is)
+bad_line_text_of (Err OutOfMemory) t line rule old new is trace = absurd (cc is)
+
+pub bad_line_text : (r : Ending) (s : Status) (t : List ℕ) (line rule : ℕ) (old new : Option (List ℕ)) → IsReported r s → s ≡ status.TraceRefused line rule → TraceAnswer t r old new
+    → new ≡ and_then old (run_text (trace_of t))
+bad_line_text r s t line rule old new reported is trace = bad_line_text_of r t line rule old new (told r s _ reported is (λ x. cc x)) trace
+
+done_text_of : (r : Ending) (t : List ℕ) (old new : Option (List ℕ)) → status_of r ≡ status.Done → TraceAnswer t r old new → new ≡ and_then old (run_text (trace_of t))
+done_text_of (Ok done) t old new is trace = trace.1
+done_text_of (Err ExportUnread) t old new is trace = absurd (cc is)
+done_text_of (Err TraceUnread) t old new is trace = absurd (cc is)
+done_text_of (Err (ExportRefused refusal)) t old new is trace = absurd (cc is)
+done_text_of (Err (TraceRefused bad)) t old new is trace = absurd (cc is)
+done_text_of (Err Unwritten) t old new is trace = absurd (cc is)
+done_text_of (Err OutOfMemory) t old new is trace = absurd (cc is)
+
+pub done_text : (r : Ending) (s : Status) (t : List ℕ) (old new : Option (List ℕ)) → IsReported r s → s ≡ status.Done → TraceAnswer t r old new → new ≡ and_then old (run_text (trace_of t))
+done_text r s t old new reported is trace = done_text_of r t old new (told r s _ reported is (λ x. cc x)) trace

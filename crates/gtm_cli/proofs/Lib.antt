@@ -5,3 +5,4 @@ pub mod Joined
 pub mod JsonTrees
 pub mod LogLines
 pub mod Turns
+pub mod Unfailed

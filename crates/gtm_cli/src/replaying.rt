@@ -6,6 +6,7 @@ ghost use Rattle.gtm_cli.specs.Answers.{ExportAnswer, TraceAnswer, WroteNothing,
 ghost use Rattle.gtm_cli.specs.declared.export.Refusal.{Refusal};
 ghost use Rattle.gtm_cli.specs.Export.{first_broken};
 ghost use Rattle.gtm_cli.specs.Outcome.{LacksOne, Handed, status_of, model_text};
+ghost use Rattle.gtm_cli.specs.Report.{LastHanded};
 ghost use Rattle.gtm_cli.specs.Run.{run_text};
 ghost use Rattle.gtm_cli.specs.Trace.{trace_of};
 
@@ -35,6 +36,7 @@ pub fn run_files<F: Files, S: Sink>(
     ensures missing { Lacks (F.held files.old) (chars export.now) → IsErrOf result Failure.ExportUnread }
     ensures trace_missing { Lacks (F.held files.old) (chars trace.now) → HasNoTrace result }
     ensures names { Handed (F.names files.old) (F.names files.new) (chars export.now ∷ chars trace.now ∷ []) }
+    ensures last { LastHanded (record { export = chars export.now; trace = chars trace.now }) result (F.names files.new) }
     ensures kept { OnOk result ((F.faults files.new ≡ F.faults files.old) × (S.faults out.new ≡ S.faults out.old)) }
 {
     accept_export(alloc, files, export)?;

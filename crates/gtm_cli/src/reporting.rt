@@ -1,8 +1,9 @@
-ghost use Rattle.std.specs.Prelude.{◌≡◌, ◌++◌, ◌∷◌, [], OnOk, IfOk, codes};
-ghost use Rattle.gtm_data.specs.JsonText.{quoted};
+ghost use Rattle.std.specs.Prelude.{◌≡◌, ◌++◌, ◌∷◌, [], OnOk, IfOk, IsTrue, encode_utf8_all};
 ghost use Rattle.std.specs.Str.{chars};
 ghost use Rattle.gtm_cli.specs.Answers.{IsReported};
-ghost use Rattle.gtm_cli.specs.Report.{reason, refusal_text, bad_line_text, unwritten_text, memory_text};
+ghost use Rattle.gtm_cli.specs.Report.{TookLine, unread_name, reason, unread_text, refusal_text, bad_line_text, unwritten_text, memory_text, usage_text, line_of_text};
+ghost use Rattle.gtm_base.specs.Ascii.{is_all_ascii};
+ghost use Rattle.gtm_base.specs.Outside.{and_then, TookFront};
 
 use crate::export::Refusal;
 use crate::failure::{Failure, status_of};
@@ -21,21 +22,62 @@ pub fn report<S: Sink>(
     ending: Result<(), Failure>,
     err: &mut S,
 ) -> Status
-    ensures { IsReported ending result }
+    requires { S.faults err.old ≡ 0 }
+    ensures status { IsReported ending result }
+    ensures line { TookLine (unread_name (record { export = chars export.now; trace = chars trace.now }) ending) result (S.taken err.old) (S.taken err.new) (S.faults err.new) }
 {
-    let Err(failure) = ending else {
-        return Status::Done;
-    };
-    match reason(alloc, export, trace, &failure) {
-        Ok(line) => {
-            let _ = put(err, line.as_str().as_bytes());
-            status_of(Err(failure))
-        },
-        Err(OutOfMemory) => {
-            let _ = put(err, b"gtm_replay: out of memory\n");
-            Status::OutOfMemory
+    match ending {
+        Ok(()) => Status::Done,
+        Err(failure) => match reason(alloc, export, trace, &failure) {
+            Ok(line) => {
+                put_text(&line, err);
+                status_of(Err(failure))
+            },
+            Err(OutOfMemory) => {
+                put_out_of_memory(err);
+                Status::OutOfMemory
+            },
         },
     }
+}
+
+fn put_text<S: Sink>(text: &Text, err: &mut S)
+    requires { S.faults err.old ≡ 0 }
+    ensures front { TookFront (S.taken err.old) (S.taken err.new) (encode_utf8_all text.now) }
+    ensures whole { S.faults err.new ≡ 0 → S.taken err.new ≡ and_then (S.taken err.old) (encode_utf8_all text.now) }
+{
+    let _ = put(err, text.as_str().as_bytes());
+}
+
+#[tactic(auto, unfolding(crate::specs::Report::memory_text))]
+fn put_out_of_memory<S: Sink>(err: &mut S)
+    requires { S.faults err.old ≡ 0 }
+    ensures front { TookFront (S.taken err.old) (S.taken err.new) (line_of_text memory_text) }
+    ensures whole { S.faults err.new ≡ 0 → S.taken err.new ≡ and_then (S.taken err.old) (line_of_text memory_text) }
+{
+    put_word(err, "gtm_replay: out of memory\n");
+}
+
+/// Writes how the program is used.
+#[tactic(auto, unfolding(crate::specs::Report::usage_text))]
+pub fn put_usage<S: Sink>(err: &mut S)
+    requires { S.faults err.old ≡ 0 }
+    ensures front { TookFront (S.taken err.old) (S.taken err.new) (line_of_text usage_text) }
+    ensures whole { S.faults err.new ≡ 0 → S.taken err.new ≡ and_then (S.taken err.old) (line_of_text usage_text) }
+{
+    put_word(
+        err,
+        "usage: gtm_replay run EXPORT TRACE | gtm_replay self N\n",
+    );
+}
+
+fn put_word<S: Sink>(err: &mut S, word: &str)
+    requires word { IsTrue (is_all_ascii word.now) }
+    requires err { S.faults err.old ≡ 0 }
+    ensures front { TookFront (S.taken err.old) (S.taken err.new) (encode_utf8_all word.now) }
+    ensures whole { S.faults err.new ≡ 0 → S.taken err.new ≡ and_then (S.taken err.old) (encode_utf8_all word.now) }
+{
+    let _ = put(err, word.as_bytes());
 }
 
 fn reason(alloc: Global, export: &str, trace: &str, failure: &Failure) -> Result<Text, OutOfMemory>
@@ -68,14 +110,15 @@ fn write_reason(
 }
 
 fn write_unread(text: &mut Text, name: &str) -> Result<(), OutOfMemory>
-    ensures { OnOk result (text.new ≡ text.old ++ codes "gtm_replay: cannot read " ++ quoted (chars name.now)) }
+    ensures { OnOk result (text.new ≡ text.old ++ unread_text (chars name.now)) }
 {
     text.push_word("gtm_replay: cannot read ")?;
-    write_quoted(text, name)
+    write_quoted(text, name)?;
+    Ok(())
 }
 
 fn write_refusal(alloc: Global, text: &mut Text, refusal: &Refusal) -> Result<(), OutOfMemory>
-    ensures { OnOk result (text.new ≡ text.old ++ refusal_text refusal.now) }
+    ensures { OnOk result (text.new ≡ text.old ++ refusal_text refusal.now.rule refusal.now.path) }
 {
     text.push_word("gtm_replay: export: rule ")?;
     text.push_unsigned(alloc, refusal.rule as u64)?;
@@ -85,7 +128,7 @@ fn write_refusal(alloc: Global, text: &mut Text, refusal: &Refusal) -> Result<()
 }
 
 fn write_bad_line(alloc: Global, text: &mut Text, bad: &BadLine) -> Result<(), OutOfMemory>
-    ensures { OnOk result (text.new ≡ text.old ++ bad_line_text bad.now) }
+    ensures { OnOk result (text.new ≡ text.old ++ bad_line_text bad.now.line bad.now.rule) }
 {
     text.push_word("gtm_replay: trace: line ")?;
     text.push_unsigned(alloc, bad.line)?;

@@ -1,5 +1,7 @@
 ghost use Rattle.std.specs.Prelude.{◌≡◌, ◌<◌, ◌⊎◌, ◌↔◌, ◌∷◌, [], ℕ, List, Some, None, IfSome};
-ghost use Rattle.gtm_base.specs.Outside.{Holds, Lacks, TookFront};
+ghost use Rattle.gtm_base.specs.Outside.{Holds, Lacks, TookFront, and_then};
+ghost use Rattle.gtm_cli.specs.Report.{Reports};
+ghost use Rattle.gtm_cli.specs.Run.{run_text};
 ghost use Rattle.gtm_cli.specs.declared.export.Refusal.{Refusal};
 ghost use Rattle.gtm_cli.specs.Export.{first_broken};
 ghost use Rattle.gtm_cli.specs.Outcome.{IsModels, LacksOne, Handed, model_text};
@@ -7,9 +9,9 @@ ghost use Rattle.gtm_cli.specs.Trace.{trace_of};
 ghost use Rattle.gtm_cli.specs.Words.{names_in};
 
 use crate::replaying::run_files;
-use crate::reporting::report;
+use crate::reporting::{put_usage, report};
 use crate::words::names_in;
-use gtm_base::{Files, Sink, Status, put};
+use gtm_base::{Files, Sink, Status};
 use std::alloc::Global;
 
 /// Runs the command that the words give: `run EXPORT TRACE` runs the trace over the export and writes the run to `out`.
@@ -38,6 +40,9 @@ pub fn replay<F: Files, S: Sink>(
     ensures headline { IfSome (names_in words.now) (λ names. (e t : List ℕ) → Holds (F.held files.old) names.export e → Holds (F.held files.old) names.trace t
         → F.faults files.new ≡ 0 → S.faults out.new ≡ 0
         → (result ≡ Status.OutOfMemory) ⊎ IsModels e t result (S.taken out.old) (S.taken out.new)) }
+    ensures complete { IfSome (names_in words.now) (λ names. (e t : List ℕ) → Holds (F.held files.old) names.export e → Holds (F.held files.old) names.trace t
+        → first_broken e ≡ None → (trace_of t).refusal ≡ None → F.faults files.new ≡ 0 → S.faults out.new ≡ 0
+        → (result ≡ Status.OutOfMemory) ⊎ ((result ≡ Status.Done) × (S.taken out.new ≡ and_then (S.taken out.old) (run_text (trace_of t))))) }
 
     // When each answer comes.
     ensures done { result ≡ Status.Done → (F.faults files.new ≡ 0) × (S.faults out.new ≡ 0) }
@@ -57,13 +62,19 @@ pub fn replay<F: Files, S: Sink>(
     ensures front { IfSome (names_in words.now) (λ names. (e t : List ℕ) → Holds (F.held files.old) names.export e → Holds (F.held files.old) names.trace t
         → TookFront (S.taken out.old) (S.taken out.new) (model_text e t)) }
     ensures names { IfSome (names_in words.now) (λ names. Handed (F.names files.old) (F.names files.new) (names.export ∷ names.trace ∷ [])) }
-    ensures no_words { result ≡ Status.Usage → (S.taken out.new ≡ S.taken out.old) × (F.names files.new ≡ F.names files.old) }
+    ensures usage_nothing { result ≡ Status.Usage → (S.taken out.new ≡ S.taken out.old) × (F.names files.new ≡ F.names files.old) }
+    ensures unread_nothing { result ≡ Status.FileFault → S.taken out.new ≡ S.taken out.old }
+    ensures refused_nothing { (rule : ℕ) (path : List ℕ) → result ≡ Status.ExportRefused rule path → S.taken out.new ≡ S.taken out.old }
+    ensures bad_line_text { IfSome (names_in words.now) (λ names. (line rule : ℕ) (t : List ℕ) → result ≡ Status.TraceRefused line rule
+        → Holds (F.held files.old) names.trace t → S.taken out.new ≡ and_then (S.taken out.old) (run_text (trace_of t))) }
+    ensures done_text { IfSome (names_in words.now) (λ names. (t : List ℕ) → result ≡ Status.Done
+        → Holds (F.held files.old) names.trace t → S.taken out.new ≡ and_then (S.taken out.old) (run_text (trace_of t))) }
+
+    // The line on standard error.
+    ensures err { Reports (F.names files.new) result (S.taken err.old) (S.taken err.new) (S.faults err.new) }
 {
     let Some((export, trace)) = names_in(words) else {
-        let _ = put(
-            err,
-            b"usage: gtm_replay run EXPORT TRACE | gtm_replay self N\n",
-        );
+        put_usage(err);
         return Status::Usage;
     };
     let ending = run_files(alloc, export, trace, files, out);

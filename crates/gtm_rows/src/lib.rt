@@ -3,10 +3,12 @@
 
 mod running;
 
-pub use running::{Ran, run_over, run_words};
+pub use running::{Failing, NONE, Ran, run_over, run_words};
 
 #[cfg(test)]
 mod calls;
+#[cfg(test)]
+mod failures;
 #[cfg(test)]
 mod merges;
 #[cfg(test)]

@@ -1,4 +1,4 @@
-use crate::run_over;
+use crate::{NONE, run_over};
 use std::test::Fail;
 
 const EXPORT: &[u8] = b"{\"exportFormatVersion\":2,\"containerVersion\":{}}";
@@ -146,7 +146,7 @@ const MERGES: &[Merge] = &[
 #[test]
 fn merges(rt: HostRuntime) -> Result<(), Fail> {
     for merge in MERGES {
-        let ran = run_over(rt.alloc(), EXPORT, merge.trace, 0)?;
+        let ran = run_over(rt.alloc(), EXPORT, merge.trace, NONE)?;
         assert_eq!(rt; ran.status.code(), 0, "{}", merge.name);
         assert!(rt; ran.out.bytes().ends_with(merge.closing), "{}", merge.name);
     }

@@ -1,4 +1,4 @@
-use crate::{run_over, run_words};
+use crate::{NONE, run_over, run_words};
 use std::test::Fail;
 
 const EXPORT: &[u8] = b"{\"exportFormatVersion\":2,\"containerVersion\":{}}";
@@ -186,7 +186,7 @@ const ROWS: &[Row] = &[
 #[test]
 fn traces(rt: HostRuntime) -> Result<(), Fail> {
     for row in ROWS {
-        let ran = run_over(rt.alloc(), EXPORT, row.trace, 0)?;
+        let ran = run_over(rt.alloc(), EXPORT, row.trace, NONE)?;
         assert_eq!(rt; ran.status.code(), row.status, "{}", row.name);
         assert_eq!(rt; ran.out.bytes(), row.out, "{}", row.name);
         assert_eq!(rt; ran.err.bytes(), row.err, "{}", row.name);
@@ -250,7 +250,7 @@ const EXPORTS: &[ExportRow] = &[
 #[test]
 fn exports(rt: HostRuntime) -> Result<(), Fail> {
     for row in EXPORTS {
-        let ran = run_over(rt.alloc(), row.export, b"", 0)?;
+        let ran = run_over(rt.alloc(), row.export, b"", NONE)?;
         assert_eq!(rt; ran.status.code(), row.status, "{}", row.name);
         assert_eq!(rt; ran.err.bytes(), row.err, "{}", row.name);
         assert_eq!(rt; ran.out.bytes().is_empty(), row.status != 0, "{}", row.name);
@@ -258,7 +258,7 @@ fn exports(rt: HostRuntime) -> Result<(), Fail> {
     Ok(())
 }
 
-// Words where no file is, their status, and the line on standard error.
+// Words where the one file `e.json` is, their status, and the line on standard error.
 struct WordsRow {
     words: &'static [&'static str],
     status: u8,
@@ -284,9 +284,14 @@ const WORDS: &[WordsRow] = &[
         err: USAGE,
     },
     WordsRow {
-        words: &["run", "e.json", "t.json"],
+        words: &["run", "x.json", "t.json"],
         status: 3,
-        err: b"gtm_replay: cannot read \"e.json\"\n",
+        err: b"gtm_replay: cannot read \"x.json\"\n",
+    },
+    WordsRow {
+        words: &["run", "e.json", "no \\ \"t\""],
+        status: 3,
+        err: b"gtm_replay: cannot read \"no \\\\ \\\"t\\\"\"\n",
     },
     WordsRow {
         words: &["run", "a\"b\\c", "t.json"],
@@ -296,9 +301,9 @@ const WORDS: &[WordsRow] = &[
 ];
 
 #[test]
-fn words(rt: HostRuntime) -> Result<(), Fail> {
+fn commands(rt: HostRuntime) -> Result<(), Fail> {
     for row in WORDS {
-        let ran = run_words(rt.alloc(), row.words)?;
+        let ran = run_words(rt.alloc(), row.words, EXPORT, NONE)?;
         assert_eq!(rt; ran.status.code(), row.status);
         assert_eq!(rt; ran.err.bytes(), row.err);
         assert!(rt; ran.out.bytes().is_empty());
@@ -311,7 +316,7 @@ fn words(rt: HostRuntime) -> Result<(), Fail> {
 fn long_lines(rt: HostRuntime) -> Result<(), Fail> {
     for (size, status) in [(1_048_576, 0), (1_048_577, 5)] {
         let line = vec![in rt.alloc(); b' '; size]?;
-        let ran = run_over(rt.alloc(), EXPORT, line.as_slice(), 0)?;
+        let ran = run_over(rt.alloc(), EXPORT, line.as_slice(), NONE)?;
         assert_eq!(rt; ran.status.code(), status);
     }
     Ok(())
