@@ -9,7 +9,7 @@ use Rattle.gtm_base.specs.declared.status.Status.TheVariants as status
 use Rattle.gtm_cli.specs.declared.export.Refusal.{Refusal}
 use Rattle.gtm_cli.specs.declared.failure.Failure.{Failure}
 use Rattle.gtm_cli.specs.declared.failure.Failure.TheVariants.{ExportUnread, TraceUnread, ExportRefused, TraceRefused, Unwritten, OutOfMemory}
-use Rattle.gtm_cli.specs.Answers.{ExportAnswer, TraceAnswer, WroteNothing, IsReported}
+use Rattle.gtm_cli.specs.Answers.{ExportAnswer, TraceAnswer, WroteNothing, HasNoTrace, IsReported}
 use Rattle.gtm_cli.specs.Export.{first_broken}
 use Rattle.gtm_cli.specs.Outcome.{status_of, status_unless, text_unless, model_text, IsModels, AcceptsExport, LacksOne}
 use Rattle.gtm_cli.specs.Run.{run_text}
@@ -199,3 +199,17 @@ done_text_of (Err OutOfMemory) t old new is trace = absurd (cc is)
 
 pub done_text : (r : Ending) (s : Status) (t : List ℕ) (old new : Option (List ℕ)) → IsReported r s → s ≡ status.Done → TraceAnswer t r old new → new ≡ and_then old (run_text (trace_of t))
 done_text r s t old new reported is trace = done_text_of r t old new (told r s _ reported is (λ x. cc x)) trace
+
+no_trace_of : (r : Ending) (s : Status) → s ≡ status_of r → HasNoTrace r → (s ≡ status.OutOfMemory) ⊎ ((s ≡ status.FileFault) ⊎ ((rule : ℕ) × (path : List ℕ) × (s ≡ status.ExportRefused rule path)))
+no_trace_of (Ok done) s is none = absurd none
+no_trace_of (Err ExportUnread) s is none = inr (inl is)
+no_trace_of (Err TraceUnread) s is none = inr (inl is)
+no_trace_of (Err (ExportRefused refusal)) s is none = inr (inr (refusal.rule, refusal.path, is))
+no_trace_of (Err (TraceRefused bad)) s is none = absurd none
+no_trace_of (Err Unwritten) s is none = absurd none
+no_trace_of (Err OutOfMemory) s is none = inl is
+
+-- where there is no trace, the run ends there or at the export
+pub missing_trace : (r : Ending) (s : Status) → IsReported r s → HasNoTrace r → (s ≡ status.OutOfMemory) ⊎ ((s ≡ status.FileFault) ⊎ ((rule : ℕ) × (path : List ℕ) × (s ≡ status.ExportRefused rule path)))
+missing_trace r s (inr memory) none = inl memory
+missing_trace r s (inl is) none = no_trace_of r s is none

@@ -1,5 +1,5 @@
 -- The line on standard error.
-use Rattle.std.specs.Prelude.{◌≡◌, ℕ, List, [], ◌∷◌, ◌++◌, codes, decimal, encode_utf8_all, Option, Some, IfSome, Result, Ok, Err}
+use Rattle.std.specs.Prelude.{◌≡◌, ℕ, List, [], ◌∷◌, ◌++◌, codes, decimal, encode_utf8_all, Option, IfSome, Result, Err}
 use Rattle.gtm_base.specs.Outside.{and_then, TookFront}
 use Rattle.gtm_base.specs.declared.status.Status.{Status}
 use Rattle.gtm_base.specs.declared.status.Status.TheVariants.{Done, Usage, FileFault, ExportRefused, TraceRefused, SinkFault, OutOfMemory}
@@ -25,16 +25,6 @@ refusal_text rule path = codes "gtm_replay: export: rule " ++ decimal rule ++ co
 
 abbrev pub bad_line_text : ℕ → ℕ → List ℕ
 bad_line_text line rule = codes "gtm_replay: trace: line " ++ decimal line ++ codes " rule " ++ decimal rule
-
--- what a status says, without LF, where the named file could not be read
-abbrev pub status_text : List ℕ → Status → List ℕ
-status_text name Done = []
-status_text name Usage = usage_text
-status_text name FileFault = unread_text name
-status_text name (ExportRefused rule path) = refusal_text rule path
-status_text name (TraceRefused line rule) = bad_line_text line rule
-status_text name SinkFault = unwritten_text
-status_text name OutOfMemory = memory_text
 
 -- the UTF-8 bytes of a line
 abbrev pub line_of_text : List ℕ → List ℕ

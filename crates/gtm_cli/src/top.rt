@@ -58,6 +58,9 @@ pub fn replay<F: Files, S: Sink>(
     ensures sink_fault { result ≡ Status.SinkFault → 0 < S.faults out.new }
     ensures missing_export { IfSome (names_in words.now) (λ names. Lacks (F.held files.old) names.export → (result ≡ Status.OutOfMemory) ⊎ (result ≡ Status.FileFault)) }
 
+    ensures missing_trace { IfSome (names_in words.now) (λ names. Lacks (F.held files.old) names.trace
+        → (result ≡ Status.OutOfMemory) ⊎ ((result ≡ Status.FileFault) ⊎ ((rule : ℕ) × (path : List ℕ) × (result ≡ Status.ExportRefused rule path)))) }
+
     // What was written and opened, whatever the status.
     ensures front { IfSome (names_in words.now) (λ names. (e t : List ℕ) → Holds (F.held files.old) names.export e → Holds (F.held files.old) names.trace t
         → TookFront (S.taken out.old) (S.taken out.new) (model_text e t)) }

@@ -1,4 +1,4 @@
-use Rattle.gtm_cli.proofs.Endings.{export_refused, trace_refused, refuses_export, file_fault, front_of_model, headline, complete, bad_line_text, done_text}
+use Rattle.gtm_cli.proofs.Endings.{export_refused, trace_refused, refuses_export, file_fault, front_of_model, headline, complete, bad_line_text, done_text, missing_trace}
 use Rattle.gtm_cli.proofs.top.replay.Goals as goal
 
 pub returns-clause-export_refused : goal.returns-clause-export_refused
@@ -38,3 +38,6 @@ returns-clause-bad_line_text g c = rw c.in-Some.ensures.some (λ line rule t is 
 
 pub returns-clause-done_text : goal.returns-clause-done_text
 returns-clause-done_text g c = rw c.in-Some.ensures.some (λ t is trace. done_text _ _ t _ _ c.report.ensures.status is (c.run_files-ending.ensures.trace t trace))
+
+pub returns-clause-missing_trace : goal.returns-clause-missing_trace
+returns-clause-missing_trace g c = rw c.in-Some.ensures.some (λ lacks. missing_trace _ _ c.report.ensures.status (c.run_files-ending.ensures.trace_missing lacks))
