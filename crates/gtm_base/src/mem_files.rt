@@ -1,7 +1,10 @@
-ghost use Rattle.std.specs.Prelude.{◌≡◌, ◌≤◌, ◌<◌, ◌^◌, [], ◌++◌, ◌∷◌, length, take, drop, Some, None, OnOk, OnErr};
+ghost use Rattle.std.specs.Prelude.{◌≡◌, ◌≤◌, ◌<◌, ◌^◌, [], ◌++◌, ◌∷◌, length, take, drop, min, false, Some, None, IsTrue, IsSome, IsOk, IsErr, IfOk, OnOk, OnErr};
 ghost use Rattle.std.specs.Str.{chars};
 ghost use Rattle.std.specs.Prelude.{◌+◌, option_map, slice_get};
-ghost use Rattle.gtm_base.specs.Memory.{with_file};
+ghost use Rattle.gtm_base.specs.Causes.{IsCounted};
+ghost use Rattle.gtm_base.specs.Keys.{value_of, place_of};
+ghost use Rattle.gtm_base.specs.Memory.{with_file, name_in, left_in, one_more, is_among, left_count, faults_after_open};
+ghost use Rattle.gtm_base.specs.Outside.{AddsName, followed_by};
 
 use crate::handed::keep_name;
 use crate::{FileFailed, Files, Keyed, ListOf, OutOfMemory, Text};
@@ -93,7 +96,18 @@ impl Files for MemFiles {
 
     ghost faults = { λ files. files.faults };
 
-    fn open(&mut self, name: &str) -> Result<(), FileFailed> {
+    /// Counts the call. Fails where the name is not held, and else only where this call is to fail.
+    fn open(&mut self, name: &str) -> Result<(), FileFailed>
+        ensures names { AddsName self.old.names self.new.names (chars name.now) }
+        ensures bytes { OnOk result ((left_in self.new ≡ value_of (chars name.now) self.old.held) × IsSome (value_of (chars name.now) self.old.held)) }
+        ensures open_name { OnOk result (name_in self.new ≡ Some (chars name.now)) }
+        ensures absent { value_of (chars name.now) self.old.held ≡ None → IsErr result }
+        ensures later { self.old.faults ≤ self.new.faults }
+        ensures ok { OnOk result (self.new ≡ record self.old { calls = one_more self.old.calls; file = place_of (chars name.now) self.old.held; done = 0; names = self.new.names }) }
+        ensures err { OnErr result (self.new ≡ record self.old { calls = one_more self.old.calls; faults = faults_after_open self.old (chars name.now); file = None; names = self.new.names }) }
+        ensures fails { IsTrue (is_among self.old.failing (one_more self.old.calls)) → IsErr result }
+        ensures opens { IsSome (value_of (chars name.now) self.old.held) → is_among self.old.failing (one_more self.old.calls) ≡ false → IsOk result }
+    {
         self.file = None;
         keep_name(self.alloc, &mut self.names, name);
         let fails = fails_now(self.failing.as_slice(), &mut self.calls);
@@ -111,7 +125,19 @@ impl Files for MemFiles {
         }
     }
 
-    fn read(&mut self, piece: &mut [u8]) -> Result<usize, FileFailed> {
+    /// Counts the call. Reads as much as there is room for, and fails only where this call is to fail.
+    fn read(&mut self, piece: &mut [u8]) -> Result<usize, FileFailed>
+        requires { IsSome self.old.file }
+        ensures count { IfOk result (λ count. count ≡ min (length piece.old) (left_count self.old)) }
+        ensures bytes { IfOk result (λ count. left_in self.old ≡ followed_by (take count piece.new) (left_in self.new)) }
+        ensures rest { IfOk result (λ count. drop count piece.new ≡ drop count piece.old) }
+        ensures untouched { OnErr result (piece.new ≡ piece.old) }
+        ensures ok { IfOk result (λ count. self.new ≡ record self.old { calls = one_more self.old.calls; done = self.old.done + count }) }
+        ensures err { OnErr result (self.new ≡ record self.old { calls = one_more self.old.calls; faults = one_more self.old.faults }) }
+        ensures counted { IsCounted self.old.faults self.new.faults result }
+        ensures fails { IsTrue (is_among self.old.failing (one_more self.old.calls)) → IsErr result }
+        ensures reads { is_among self.old.failing (one_more self.old.calls) ≡ false → IsOk result }
+    {
         if fails_now(self.failing.as_slice(), &mut self.calls) {
             self.faults = self.faults.saturating_add(1);
             return Err(FileFailed);
@@ -131,7 +157,10 @@ impl Files for MemFiles {
 }
 
 // Whether the call that begins here is to fail.
-fn fails_now(failing: &[u64], calls: &mut u64) -> bool {
+fn fails_now(failing: &[u64], calls: &mut u64) -> bool
+    ensures calls { calls.new ≡ one_more calls.old }
+    ensures fails { result ≡ is_among failing.now (one_more calls.old) }
+{
     *calls = calls.saturating_add(1);
     failing.contains(calls)
 }
@@ -152,10 +181,9 @@ fn left_of(files: &[(Text, ListOf<u8>)], place: usize, done: usize) -> &[u8]
 
 // Copies as much of the front as there is room for.
 fn copy_front(left: &[u8], piece: &mut [u8]) -> usize
-    ensures within { result ≤ length left.now }
-    ensures room { result ≤ length piece.new }
+    ensures count { result ≡ min (length piece.old) (length left.now) }
     ensures front { take result piece.new ≡ take result left.now }
-    ensures end { 0 < length piece.old → result ≡ 0 → left.now ≡ [] }
+    ensures rest { drop result piece.new ≡ drop result piece.old }
 {
     let count = left.len().min(piece.len());
     piece[..count].copy_from_slice(&left[..count]);

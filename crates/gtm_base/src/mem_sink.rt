@@ -1,4 +1,6 @@
-ghost use Rattle.std.specs.Prelude.{◌≡◌, ◌++◌, ◌∷◌, [], OnOk, OnErr};
+ghost use Rattle.std.specs.Prelude.{◌≡◌, ◌++◌, ◌∷◌, [], length, IsTrue, IsErr, IfOk, OnOk, OnErr};
+ghost use Rattle.gtm_base.specs.Causes.{IsCounted};
+ghost use Rattle.gtm_base.specs.Memory.{one_more, is_among};
 
 use crate::{OutOfMemory, Sink, SinkFailed};
 use std::alloc::Global;
@@ -58,7 +60,14 @@ impl Sink for MemSink {
 
     ghost faults = { λ sink. sink.faults };
 
-    fn write(&mut self, piece: &[u8]) -> Result<usize, SinkFailed> {
+    /// Counts the call. Takes the whole piece, and fails only where this call is to fail or memory is wanting.
+    fn write(&mut self, piece: &[u8]) -> Result<usize, SinkFailed>
+        ensures count { IfOk result (λ count. count ≡ length piece.now) }
+        ensures ok { OnOk result (self.new ≡ record self.old { bytes = self.old.bytes ++ piece.now; calls = one_more self.old.calls }) }
+        ensures err { OnErr result (self.new ≡ record self.old { calls = one_more self.old.calls; faults = one_more self.old.faults }) }
+        ensures counted { IsCounted self.old.faults self.new.faults result }
+        ensures fails { IsTrue (is_among self.old.failing (one_more self.old.calls)) → IsErr result }
+    {
         self.calls = self.calls.saturating_add(1);
         let fails = self.failing.contains(&self.calls);
         if fails || self.bytes.extend_from_slice(piece).is_err() {

@@ -57,7 +57,6 @@ pub fn replay<F: Files, S: Sink>(
         → (first_broken e ≡ None) × ((trace_of t).refusal ≡ Some (record { line = line; rule = rule }))) }
     ensures sink_fault { result ≡ Status.SinkFault → 0 < S.faults out.new }
     ensures missing_export { IfSome (names_in words.now) (λ names. Lacks (F.held files.old) names.export → (result ≡ Status.OutOfMemory) ⊎ (result ≡ Status.FileFault)) }
-
     ensures missing_trace { IfSome (names_in words.now) (λ names. Lacks (F.held files.old) names.trace
         → (result ≡ Status.OutOfMemory) ⊎ ((result ≡ Status.FileFault) ⊎ ((rule : ℕ) × (path : List ℕ) × (result ≡ Status.ExportRefused rule path)))) }
 
