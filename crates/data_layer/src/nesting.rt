@@ -4,7 +4,7 @@ ghost use Rattle.gtm_data.specs.Paths.{dotted};
 ghost use Rattle.gtm_data.specs.Tree.{tree_of, object, entry, none};
 ghost use Rattle.data_layer.specs.Layer.{nest};
 
-use gtm_base::{ListOf, OutOfMemory, Text};
+use gtm_base::{OutOfMemory, Text, Texts};
 use gtm_data::{Data, Members, copy};
 use std::alloc::Global;
 
@@ -21,10 +21,10 @@ pub fn nested(alloc: Global, key: &str, value: &Data) -> Result<Data, OutOfMemor
 }
 
 // The parts of a text between its dots.
-fn parts(alloc: Global, text: &str) -> Result<ListOf<Text>, OutOfMemory>
+fn parts(alloc: Global, text: &str) -> Result<Texts, OutOfMemory>
     ensures { IfOk result (λ made. made ≡ dotted (chars text.now)) }
 {
-    let mut parts = ListOf::new(alloc);
+    let mut parts = Texts::new(alloc);
     for part in text.split('.') {
         parts.push(Text::from_str(alloc, part)?)?;
     }

@@ -2,11 +2,11 @@ ghost use Rattle.std.specs.Prelude.{◌≡◌, ◌++◌, ◌∷◌, [], OnOk};
 ghost use Rattle.std.specs.Str.{chars};
 ghost use Rattle.gtm_base.specs.Outside.{AddsName};
 
-use crate::{ListOf, OutOfMemory, Text};
+use crate::{OutOfMemory, Text, Texts};
 use std::alloc::Global;
 
 /// Keeps a name behind the others, or gives the list up where memory is wanting.
-pub fn keep_name(alloc: Global, names: &mut Option<ListOf<Text>>, name: &str)
+pub fn keep_name(alloc: Global, names: &mut Option<Texts>, name: &str)
     ensures { AddsName names.old names.new (chars name.now) }
 {
     let kept = match names {
@@ -18,7 +18,7 @@ pub fn keep_name(alloc: Global, names: &mut Option<ListOf<Text>>, name: &str)
     }
 }
 
-fn push_name(alloc: Global, names: &mut ListOf<Text>, name: &str) -> Result<(), OutOfMemory>
+fn push_name(alloc: Global, names: &mut Texts, name: &str) -> Result<(), OutOfMemory>
     ensures { OnOk result (names.new ≡ names.old ++ chars name.now ∷ []) }
 {
     names.push(Text::from_str(alloc, name)?)

@@ -28,5 +28,5 @@ pub use outside::{FileFailed, Files, Sink, SinkFailed};
 pub use reading::{ReadEnd, read_whole};
 pub use real::{DiskFiles, OutSink};
 pub use status::Status;
-pub use text::Text;
+pub use text::{Text, Texts};
 pub use writing::put;

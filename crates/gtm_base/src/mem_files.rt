@@ -7,7 +7,7 @@ ghost use Rattle.gtm_base.specs.Memory.{with_file, name_in, left_in, one_more, i
 ghost use Rattle.gtm_base.specs.Outside.{AddsName, followed_by};
 
 use crate::handed::keep_name;
-use crate::{FileFailed, Files, Keyed, ListOf, OutOfMemory, Text};
+use crate::{FileFailed, Files, Keyed, ListOf, OutOfMemory, Text, Texts};
 use std::alloc::Global;
 use std::marker::Model;
 
@@ -22,7 +22,7 @@ pub struct MemFiles {
     // The place of the open file among the files, and how many of its bytes were read.
     file: Option<usize>,
     done: usize,
-    names: Option<ListOf<Text>>,
+    names: Option<Texts>,
 }
 
 impl Model for MemFiles {
@@ -50,7 +50,7 @@ impl MemFiles {
             faults: 0,
             file: None,
             done: 0,
-            names: Some(ListOf::new(alloc)),
+            names: Some(Texts::new(alloc)),
         }
     }
 

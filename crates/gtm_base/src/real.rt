@@ -1,7 +1,7 @@
 ghost use Rattle.std.specs.Prelude.{◌≡◌, [], None, Some, false};
 
 use crate::handed::keep_name;
-use crate::{FileFailed, Files, ListOf, Sink, SinkFailed, Text};
+use crate::{FileFailed, Files, Sink, SinkFailed, Texts};
 use std::alloc::Global;
 use std::io::{Read, Stderr, Stdout, Write};
 use std::marker::Model;
@@ -13,7 +13,7 @@ pub struct DiskFiles<R: rt::Files> {
     alloc: Global,
     rt: R,
     file: Option<R::File>,
-    names: Option<ListOf<Text>>,
+    names: Option<Texts>,
     faults: u64,
 }
 
@@ -35,7 +35,7 @@ impl<R: rt::Files> DiskFiles<R> {
             alloc,
             rt,
             file: None,
-            names: Some(ListOf::new(alloc)),
+            names: Some(Texts::new(alloc)),
             faults: 0,
         }
     }

@@ -4,7 +4,7 @@ ghost use Rattle.std.specs.Fmt.{signed_decimal};
 ghost use Rattle.std.specs.Prelude.{string_bytes};
 ghost use Rattle.gtm_base.specs.Ascii.{is_all_ascii};
 
-use crate::OutOfMemory;
+use crate::{ListOf, OutOfMemory};
 use std::alloc::Global;
 use std::marker::Model;
 
@@ -13,6 +13,9 @@ use std::marker::Model;
 pub struct Text {
     inner: String,
 }
+
+/// Texts, in order.
+pub type Texts = ListOf<Text>;
 
 impl Model for Text {
     ghost use Rattle.std.specs.Prelude.{List, ℕ, string_bytes};
