@@ -1,5 +1,4 @@
 pub mod Characters
-pub mod Digits
 pub mod Lookups
 pub mod OpenFile
 pub mod Pairs

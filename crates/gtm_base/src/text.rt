@@ -1,10 +1,10 @@
 ghost use Rattle.std.specs.Prelude.{◌≡◌, [], ◌∷◌, ◌++◌, IfOk, IsTrue, OnOk, OnErr, encode_utf8_all, decimal};
 ghost use Rattle.std.specs.Str.{chars, bytes_eq};
 ghost use Rattle.std.specs.Fmt.{signed_decimal};
-ghost use Rattle.std.specs.Prelude.{string_bytes};
 ghost use Rattle.gtm_base.specs.Ascii.{is_all_ascii};
 
 use crate::{ListOf, OutOfMemory};
+use itoa::Buffer;
 use std::alloc::Global;
 use std::marker::Model;
 
@@ -34,6 +34,15 @@ impl Text {
         Text {
             inner: String::new(alloc),
         }
+    }
+
+    /// The empty text, with room for so many bytes.
+    pub fn with_room(alloc: Global, bytes: usize) -> Result<Text, OutOfMemory>
+        ensures { IfOk result (λ made. made ≡ []) }
+    {
+        Ok(Text {
+            inner: String::with_capacity(alloc, bytes)?,
+        })
     }
 
     /// A text of the same characters.
@@ -75,6 +84,15 @@ impl Text {
         self.is(word)
     }
 
+    /// Puts another text in its place. Where memory is wanting, the text is empty.
+    pub fn set(&mut self, text: &str) -> Result<(), OutOfMemory>
+        ensures ok { OnOk result (self.new ≡ chars text.now) }
+        ensures err { OnErr result (self.new ≡ []) }
+    {
+        self.inner.clear();
+        self.push_str(text)
+    }
+
     /// Puts a character behind. Where memory is wanting, the text stays as it was.
     pub fn push(&mut self, character: char) -> Result<(), OutOfMemory>
         ensures ok { OnOk result (self.new ≡ self.old ++ character ∷ []) }
@@ -103,21 +121,21 @@ impl Text {
     }
 
     /// Puts the digits of a number behind. Where memory is wanting, the text stays as it was.
-    pub fn push_unsigned(&mut self, alloc: Global, number: u64) -> Result<(), OutOfMemory>
+    pub fn push_unsigned(&mut self, number: u64) -> Result<(), OutOfMemory>
         ensures ok { OnOk result (self.new ≡ self.old ++ decimal number) }
         ensures err { OnErr result (self.new ≡ self.old) }
     {
-        let digits = unsigned_digits(alloc, number)?;
-        self.push_str(digits.as_str())
+        let mut digits = Buffer::new();
+        self.push_str(digits.format(number))
     }
 
     /// Puts the digits of a number behind, after `-` where it is negative. Where memory is wanting, the text stays as it was.
-    pub fn push_signed(&mut self, alloc: Global, number: i64) -> Result<(), OutOfMemory>
+    pub fn push_signed(&mut self, number: i64) -> Result<(), OutOfMemory>
         ensures ok { OnOk result (self.new ≡ self.old ++ signed_decimal number) }
         ensures err { OnErr result (self.new ≡ self.old) }
     {
-        let digits = signed_digits(alloc, number)?;
-        self.push_str(digits.as_str())
+        let mut digits = Buffer::new();
+        self.push_str(digits.format(number))
     }
 }
 
@@ -139,16 +157,4 @@ impl Eq for Text {
     ghost use Rattle.std.specs.Cmp.Lexicographic.{nat_list_eq_equiv};
 
     ghost laws = { nat_list_eq_equiv };
-}
-
-fn unsigned_digits(alloc: Global, number: u64) -> Result<String, OutOfMemory>
-    ensures { IfOk result (λ digits. string_bytes digits ≡ decimal number) }
-{
-    Ok(number.to_string(alloc)?)
-}
-
-fn signed_digits(alloc: Global, number: i64) -> Result<String, OutOfMemory>
-    ensures { IfOk result (λ digits. string_bytes digits ≡ signed_decimal number) }
-{
-    Ok(number.to_string(alloc)?)
 }

@@ -3,6 +3,7 @@ pub mod EnoughRead
 pub mod HandedNames
 pub mod Joined
 pub mod JsonTrees
+pub mod LineEnds
 pub mod LogLines
 pub mod Turns
 pub mod Unfailed

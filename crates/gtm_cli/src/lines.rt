@@ -1,6 +1,8 @@
 ghost use Rattle.std.specs.Prelude.{◌≡◌, ◌<◌, ◌≤◌, ◌∷◌, length, drop};
 ghost use Rattle.gtm_cli.specs.Trace.{lines};
 
+use memchr::memchr;
+
 /// The first line without its LF, and how many bytes it has with it.
 pub fn first_line(bytes: &[u8]) -> (&[u8], usize)
     requires { 0 < length bytes.now }
@@ -8,10 +10,8 @@ pub fn first_line(bytes: &[u8]) -> (&[u8], usize)
     ensures some { 0 < result.1 }
     ensures within { result.1 ≤ length bytes.now }
 {
-    for (at, byte) in bytes.iter().enumerate() {
-        if *byte == b'\n' {
-            return (&bytes[..at], at + 1);
-        }
+    match memchr(b'\n', bytes) {
+        Some(at) => (&bytes[..at], at + 1),
+        None => (bytes, bytes.len()),
     }
-    (bytes, bytes.len())
 }

@@ -84,13 +84,12 @@ fn reason(alloc: Global, export: &str, trace: &str, failure: &Failure) -> Result
     ensures { IfOk result (λ text. text ≡ reason (record { export = chars export.now; trace = chars trace.now }) failure.now ++ 10 ∷ []) }
 {
     let mut text = Text::new(alloc);
-    write_reason(alloc, &mut text, export, trace, failure)?;
+    write_reason(&mut text, export, trace, failure)?;
     text.push('\n')?;
     Ok(text)
 }
 
 fn write_reason(
-    alloc: Global,
     text: &mut Text,
     export: &str,
     trace: &str,
@@ -101,8 +100,8 @@ fn write_reason(
     match failure {
         Failure::ExportUnread => write_unread(text, export)?,
         Failure::TraceUnread => write_unread(text, trace)?,
-        Failure::ExportRefused(refusal) => write_refusal(alloc, text, refusal)?,
-        Failure::TraceRefused(bad) => write_bad_line(alloc, text, bad)?,
+        Failure::ExportRefused(refusal) => write_refusal(text, refusal)?,
+        Failure::TraceRefused(bad) => write_bad_line(text, bad)?,
         Failure::Unwritten => write_unwritten(text)?,
         Failure::OutOfMemory => write_out_of_memory(text)?,
     }
@@ -117,23 +116,23 @@ fn write_unread(text: &mut Text, name: &str) -> Result<(), OutOfMemory>
     Ok(())
 }
 
-fn write_refusal(alloc: Global, text: &mut Text, refusal: &Refusal) -> Result<(), OutOfMemory>
+fn write_refusal(text: &mut Text, refusal: &Refusal) -> Result<(), OutOfMemory>
     ensures { OnOk result (text.new ≡ text.old ++ refusal_text refusal.now.rule refusal.now.path) }
 {
     text.push_word("gtm_replay: export: rule ")?;
-    text.push_unsigned(alloc, refusal.rule as u64)?;
+    text.push_unsigned(refusal.rule as u64)?;
     text.push_word(" at ")?;
     write_quoted(text, refusal.path.as_str())?;
     Ok(())
 }
 
-fn write_bad_line(alloc: Global, text: &mut Text, bad: &BadLine) -> Result<(), OutOfMemory>
+fn write_bad_line(text: &mut Text, bad: &BadLine) -> Result<(), OutOfMemory>
     ensures { OnOk result (text.new ≡ text.old ++ bad_line_text bad.now.line bad.now.rule) }
 {
     text.push_word("gtm_replay: trace: line ")?;
-    text.push_unsigned(alloc, bad.line)?;
+    text.push_unsigned(bad.line)?;
     text.push_word(" rule ")?;
-    text.push_unsigned(alloc, bad.rule as u64)?;
+    text.push_unsigned(bad.rule as u64)?;
     Ok(())
 }
 

@@ -5,6 +5,7 @@ ghost use Rattle.gtm_cli.specs.Trace.{trace_of};
 
 use crate::steps::{MAX_LINE, MAX_TRACE};
 use gtm_base::{Files, ReadEnd, read_whole};
+use memchr::memrchr;
 use std::alloc::Global;
 
 /// Reads the open trace to its end, or to the first byte that makes a line or the whole of it too long.
@@ -53,13 +54,8 @@ fn unended(before: usize, piece: &[u8]) -> usize
     ensures count { result ≡ unended before piece.now }
     ensures within { result ≤ before + length piece.now }
 {
-    let mut count = before;
-    for byte in piece {
-        if *byte == b'\n' {
-            count = 0;
-        } else {
-            count += 1;
-        }
+    match memrchr(b'\n', piece) {
+        Some(at) => piece.len() - (at + 1),
+        None => before + piece.len(),
     }
-    count
 }

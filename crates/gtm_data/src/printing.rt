@@ -29,7 +29,7 @@ pub fn write_json(alloc: Global, out: &mut Text, value: &Data) -> Result<(), Out
         Data::Null => out.push_word("null"),
         Data::Bool(true) => out.push_word("true"),
         Data::Bool(false) => out.push_word("false"),
-        Data::Whole(number) => out.push_signed(alloc, *number),
+        Data::Whole(number) => out.push_signed(*number),
         Data::Text(text) => write_quoted(out, text.as_str()),
         Data::List(items) => {
             out.push('[')?;

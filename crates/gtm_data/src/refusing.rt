@@ -138,7 +138,7 @@ fn at_index(alloc: Global, path: &Text, place: usize) -> Result<Text, OutOfMemor
 {
     let mut made = path.copy(alloc)?;
     made.push('/')?;
-    made.push_unsigned(alloc, place as u64)?;
+    made.push_unsigned(place as u64)?;
     Ok(made)
 }
 

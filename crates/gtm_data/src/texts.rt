@@ -27,7 +27,7 @@ fn write_text(alloc: Global, out: &mut Text, value: &Data) -> Result<(), OutOfMe
         Data::Null => out.push_word("null"),
         Data::Bool(true) => out.push_word("true"),
         Data::Bool(false) => out.push_word("false"),
-        Data::Whole(number) => out.push_signed(alloc, *number),
+        Data::Whole(number) => out.push_signed(*number),
         Data::Text(text) => out.push_str(text.as_str()),
         Data::List(items) => write_texts(alloc, out, items),
         Data::Map(_) => out.push_word("[object Object]"),

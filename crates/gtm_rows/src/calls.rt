@@ -16,9 +16,12 @@ fn texts_and_lists(rt: HostRuntime) -> Result<(), Fail> {
     text.push('b')?;
     text.push_str("c\u{e9}")?;
     text.push_word("d")?;
-    text.push_unsigned(alloc, 12)?;
-    text.push_signed(alloc, -3)?;
+    text.push_unsigned(12)?;
+    text.push_signed(-3)?;
     assert_eq!(rt; text.copy(alloc)?.as_str(), "abc\u{e9}d12-3");
+    text.set("x")?;
+    assert_eq!(rt; text.as_str(), "x");
+    assert_eq!(rt; Text::with_room(alloc, 9)?.as_str(), "");
     let mut list = ListOf::from_slice(alloc, &[1u8, 3])?;
     list.push(4)?;
     list.insert(1, 2)?;

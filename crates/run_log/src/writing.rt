@@ -10,6 +10,9 @@ use gtm_base::{OutOfMemory, Sink, SinkFailed, Text, put};
 use gtm_data::{write_json, write_quoted};
 use std::alloc::Global;
 
+// Most lines have fewer bytes.
+const ROOM: usize = 256;
+
 /// Why a line was not written.
 #[derive(Clone, Copy, Debug, PartialEq, Eq)]
 pub enum LineEnd {
@@ -52,7 +55,7 @@ pub fn put_line<S: Sink>(alloc: Global, line: &Line, out: &mut S) -> Result<(), 
 fn whole_line(alloc: Global, line: &Line) -> Result<Text, OutOfMemory>
     ensures { IfOk result (λ text. text ≡ line_text (line_of line.now) ++ 10 ∷ []) }
 {
-    let mut text = Text::new(alloc);
+    let mut text = Text::with_room(alloc, ROOM)?;
     write_line(alloc, &mut text, line)?;
     text.push('\n')?;
     Ok(text)
@@ -70,7 +73,7 @@ fn write_line(alloc: Global, text: &mut Text, line: &Line) -> Result<(), OutOfMe
             }
         },
         Line::Event { event, name } => {
-            write_count(alloc, text, "event ", *event)?;
+            write_count(text, "event ", *event)?;
             text.push_word(" ")?;
             write_quoted(text, name.as_str())?;
         },
@@ -88,24 +91,24 @@ fn write_line(alloc: Global, text: &mut Text, line: &Line) -> Result<(), OutOfMe
             denied,
             faults,
         } => {
-            write_count(alloc, text, "end steps=", *steps)?;
-            write_count(alloc, text, " jobs=", *jobs)?;
-            write_count(alloc, text, " events=", *events)?;
-            write_count(alloc, text, " starts=", *starts)?;
-            write_count(alloc, text, " ok=", *ok)?;
-            write_count(alloc, text, " fail=", *fail)?;
-            write_count(alloc, text, " denied=", *denied)?;
-            write_count(alloc, text, " faults=", *faults)?;
+            write_count(text, "end steps=", *steps)?;
+            write_count(text, " jobs=", *jobs)?;
+            write_count(text, " events=", *events)?;
+            write_count(text, " starts=", *starts)?;
+            write_count(text, " ok=", *ok)?;
+            write_count(text, " fail=", *fail)?;
+            write_count(text, " denied=", *denied)?;
+            write_count(text, " faults=", *faults)?;
         },
     }
     Ok(())
 }
 
 // A word, and a number in digits.
-fn write_count(alloc: Global, text: &mut Text, word: &str, count: u64) -> Result<(), OutOfMemory>
+fn write_count(text: &mut Text, word: &str, count: u64) -> Result<(), OutOfMemory>
     requires { IsTrue (is_all_ascii word.now) }
     ensures { OnOk result (text.new ≡ text.old ++ word.now ++ decimal count) }
 {
     text.push_word(word)?;
-    text.push_unsigned(alloc, count)
+    text.push_unsigned(count)
 }
