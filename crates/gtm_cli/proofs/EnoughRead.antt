@@ -5,7 +5,8 @@ use Rattle.std.specs.Result.{is_err}
 use Rattle.std.proofs.lemmas.Bool.Decides.{nat_tests}
 use Rattle.gtm_base.specs.Outside.{followed_by}
 use Rattle.gtm_cli.specs.Enough.{unended}
-use Rattle.gtm_cli.specs.Trace.{TraceLine, Trace, lines_from, last_line, is_too_long, read_line, line_then, trace_from, trace_of}
+use Rattle.gtm_cli.specs.Trace.{TraceLine, Trace, last_line, is_too_long, read_line, trace_of}
+use Rattle.gtm_cli.proofs.Walk.{lines_from, line_then, trace_from, lines-walk, trace_of-walk}
 
 unended_at : (test : Bool) (count : ℕ) (bytes more : List ℕ)
     → unended 0 (bytes ++ more) ≡ unended (unended 0 bytes) more → unended (count + 1) (bytes ++ more) ≡ unended (unended (count + 1) bytes) more
@@ -108,10 +109,13 @@ enough front (b ∷ bytes) rest number before fits much =
     (λ on_much. enough (front ++ b ∷ []) bytes rest number before fits (much_too _ _ _ _ (ap (λ n. unended n bytes) (sym longer)) (omega (arith, longer)) on_much))
     (much_too _ _ _ _ refl (omega arith) much)
 
+walked : (bytes : List ℕ) → trace_of bytes ≡ trace_from 1 0 (lines_from [] bytes)
+walked bytes = trace_of-walk bytes ∙ ap (trace_from 1 0) (lines-walk bytes)
+
 -- the reading stopped where the bytes held too much
 pub stopped : (old left : Option (List ℕ)) (bytes : List ℕ) (all : ℕ) → all ≡ length bytes → old ≡ followed_by bytes left → IsTooMuch (unended 0 bytes) all → IfSome old (λ all. trace_of bytes ≡ trace_of all)
 stopped old None bytes all count is much = rw is tt
-stopped old (Some rest) bytes all count is much = rw is (enough [] bytes rest 1 0 (omega arith) (much_too _ _ _ _ refl (omega arith) much))
+stopped old (Some rest) bytes all count is much = rw is (walked bytes ∙ enough [] bytes rest 1 0 (omega arith) (much_too _ _ _ _ refl (omega arith) much) ∙ sym (walked (bytes ++ rest)))
 
 -- the reading came to the end
 pub ended : (old left : Option (List ℕ)) (bytes : List ℕ) → old ≡ followed_by bytes left → IfSome left (λ rest. rest ≡ []) → IfSome old (λ all. trace_of bytes ≡ trace_of all)

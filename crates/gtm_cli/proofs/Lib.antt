@@ -5,5 +5,7 @@ pub mod Joined
 pub mod JsonTrees
 pub mod LineEnds
 pub mod LogLines
+pub mod RunLaws
 pub mod Turns
 pub mod Unfailed
+pub mod Walk

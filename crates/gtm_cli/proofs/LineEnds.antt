@@ -4,7 +4,8 @@ use Rattle.std.specs.Prelude.{◌==◌, slice_index, if◌then◌else◌}
 use Rattle.std.proofs.Math.ListN.{drop_of_length-le}
 use Rattle.memchr.specs.Find.{Nowhere, Passes, is_byte}
 use Rattle.gtm_cli.specs.Enough.{unended}
-use Rattle.gtm_cli.specs.Trace.{last_line, lines, lines_from}
+use Rattle.gtm_cli.specs.Trace.{last_line, lines}
+use Rattle.gtm_cli.proofs.Walk.{lines_from, lines-walk}
 
 -- no byte from this place on, up to the other, is a line feed
 abbrev NoEnd : List ℕ → ℕ → ℕ → Type 0
@@ -46,7 +47,7 @@ pub first_cut : (at : ℕ) (bytes : List ℕ) → at < length bytes → NoEnd by
     → lines bytes ≡ record { text = take at bytes; size = at + 1 } ∷ lines (drop (at + 1) bytes)
 first_cut at bytes within none is =
     let size : 0 + at + 1 ≡ at + 1 = omega arith in
-    cut_at at [] bytes within none is ∙ (λ i. record { text = take at bytes; size = size i } ∷ lines (drop (sym (add-one at) i) bytes))
+    lines-walk bytes ∙ cut_at at [] bytes within none is ∙ (λ i. record { text = take at bytes; size = size i } ∷ sym (lines-walk (drop (sym (add-one at) i) bytes)) i)
 
 -- the only line
 pub only_line : (bytes : List ℕ) → 0 < length bytes → NoEnd bytes 0 (length bytes) → lines bytes ≡ record { text = bytes; size = length bytes } ∷ lines (drop (length bytes) bytes)
@@ -54,7 +55,7 @@ only_line [] some none = absurd (omega arith)
 only_line (b ∷ bytes) some none =
     let all : length (b ∷ bytes) ≤ length (b ∷ bytes) = omega arith in
     let past : drop (length (b ∷ bytes)) (b ∷ bytes) ≡ [] = drop_of_length-le (b ∷ bytes) all in
-    one_line [] (b ∷ bytes) none ∙ ap (λ rest. record { text = b ∷ bytes; size = length (b ∷ bytes) } ∷ lines rest) (sym past)
+    lines-walk (b ∷ bytes) ∙ one_line [] (b ∷ bytes) none ∙ ap (λ rest. record { text = b ∷ bytes; size = length (b ∷ bytes) } ∷ rest) (sym (lines-walk []) ∙ ap lines (sym past))
 
 -- bytes with no line feed go on with what was unended
 pub unended_on : (count : ℕ) (bytes : List ℕ) → NoEnd bytes 0 (length bytes) → unended count bytes ≡ count + length bytes

@@ -6,7 +6,8 @@ use Rattle.std.proofs.lemmas.Grind.{flat_map-append}
 use Rattle.gtm_base.specs.Outside.{and_then, TookFront}
 use Rattle.gtm_base.proofs.Pieces.{and_then-append, and_then-nil, front_of_more, front_after, slice_to_end}
 use Rattle.run_log.specs.Lines.{LogLine, line_bytes}
-use Rattle.gtm_cli.specs.Trace.{Reading, blank, step, bad, Step, Trace, line_then}
+use Rattle.gtm_cli.specs.Trace.{Reading, blank, step, bad, Step, Trace}
+use Rattle.gtm_cli.proofs.Walk.{line_then}
 use Rattle.gtm_cli.specs.Run.{State, next, step_lines, run_lines, run_state, closing_unless, lines_text, text_from}
 use Rattle.gtm_cli.specs.Turn.{Advances, line_piece, OnTheWay}
 
@@ -71,8 +72,8 @@ way_front reading number rest state first taken now text way some =
 pub way_all : (first taken now : Option (List ℕ)) (rest text : List ℕ) → OnTheWay first taken rest text → now ≡ and_then taken rest → now ≡ and_then first text
 way_all first taken now rest text way all = rw way.whole (all ∙ ap (λ t. and_then t rest) way.taken ∙ and_then-append first way.done rest)
 
-pub way_start : (taken : Option (List ℕ)) (text : List ℕ) → OnTheWay taken taken text text
-way_start taken text = record { done = []; taken = and_then-nil taken; whole = refl }
+pub way_start : (taken : Option (List ℕ)) (rest text : List ℕ) → text ≡ rest → OnTheWay taken taken rest text
+way_start taken rest text is = record { done = []; taken = and_then-nil taken; whole = is }
 
 pub empty_rest : (bytes : List ℕ) → (length bytes == 0) ≡ true → bytes ≡ []
 empty_rest [] test = refl

@@ -1,5 +1,6 @@
 -- The run of a list of steps, and its text.
-use Rattle.std.specs.Prelude.{ℕ, ◌+◌, List, [], ◌∷◌, ◌++◌, Option, Some, None, if◌then◌else◌}
+use Rattle.std.specs.Prelude.{ℕ, ◌+◌, List, [], ◌∷◌, ◌++◌, Bool, Option, Some, None, is_some, if◌then◌else◌}
+use Rattle.std.specs.Prelude.{fold}
 use Rattle.std.specs.List.{flat_map}
 use Rattle.data_layer.specs.Layer.{LayerState, empty_layer, is_ignored, after_message}
 use Rattle.run_log.specs.Lines.{LogLine, Counts, message, event, model, finish, line_bytes}
@@ -14,6 +15,7 @@ pub record State : Type 0 where
   pub jobs : ℕ
   pub events : ℕ
 
+-- before the first step
 abbrev pub start : State
 start = record { layer = empty_layer; steps = 0; jobs = 0; events = 0 }
 
@@ -21,6 +23,7 @@ start = record { layer = empty_layer; steps = 0; jobs = 0; events = 0 }
 abbrev pub event_of : Tree → Option (List ℕ)
 event_of value = if is_ignored value then None else event_name value
 
+-- one where there is an event
 abbrev pub one_if : Option (List ℕ) → ℕ
 one_if None = 0
 one_if (Some name) = 1
@@ -34,6 +37,7 @@ next state (push value) = record {
   events = state.events + one_if (event_of value);
 }
 
+-- the line of an event, where there is one
 abbrev pub event_lines : ℕ → Option (List ℕ) → List LogLine
 event_lines number None = []
 event_lines number (Some name) = event number name ∷ []
@@ -42,6 +46,10 @@ event_lines number (Some name) = event number name ∷ []
 abbrev pub step_lines : State → Step → List LogLine
 step_lines state (push value) = message value (is_ignored value) ∷ event_lines (state.events + 1) (event_of value)
 
+-- whether a step is an event
+abbrev pub is_event : Step → Bool
+is_event (push value) = is_some (event_of value)
+
 -- the lines of a list of steps
 abbrev pub run_lines : State → List Step → List LogLine
 run_lines state [] = []
@@ -49,8 +57,7 @@ run_lines state (step ∷ steps) = step_lines state step ++ run_lines (next stat
 
 -- the state after a list of steps
 abbrev pub run_state : State → List Step → State
-run_state state [] = state
-run_state state (step ∷ steps) = run_state (next state step) steps
+run_state state steps = fold next state steps
 
 -- what the last line counts; no tag starts yet
 abbrev pub counts_of : ℕ → ℕ → ℕ → Counts
@@ -65,6 +72,7 @@ abbrev pub closing_unless : Option BadLine → State → List LogLine
 closing_unless None state = closing state
 closing_unless (Some refusal) state = []
 
+-- the text of lines of the log
 abbrev pub lines_text : List LogLine → List ℕ
 lines_text lines = flat_map line_bytes lines
 

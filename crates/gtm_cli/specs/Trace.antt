@@ -1,6 +1,6 @@
 -- The steps of a trace.
-use Rattle.std.specs.Prelude.{ℕ, ◌+◌, nat_lt, ◌==◌, ◌&&◌, ◌||◌, not, List, [], ◌∷◌, ◌++◌, length, Bool, true, false, Option, Some, None, option_and_then, if◌then◌else◌, codes}
-use Rattle.std.specs.List.{list_all}
+use Rattle.std.specs.Prelude.{ℕ, ◌+◌, nat_lt, ◌==◌, ◌&&◌, ◌||◌, not, List, [], ◌∷◌, length, Bool, true, false, Option, Some, None, option_and_then, if◌then◌else◌, codes, slice_get}
+use Rattle.std.specs.List.{list_all, slice_split, scan, filter_map, enumerate_from, before_first}
 use Rattle.std.specs.Str.{bytes_eq}
 use Rattle.serde_json.specs.Data as json
 use Rattle.gtm_data.specs.Tree.{Tree, list, text_in}
@@ -19,14 +19,15 @@ abbrev pub last_line : List ℕ → List TraceLine
 last_line [] = []
 last_line (b ∷ bs) = record { text = b ∷ bs; size = length (b ∷ bs) } ∷ []
 
--- the lines of these bytes, cut behind each LF, where the first one begins with `front` already
-abbrev pub lines_from : List ℕ → List ℕ → List TraceLine
-lines_from front [] = last_line front
-lines_from front (b ∷ bs) =
-    if b == 10 then record { text = front; size = length front + 1 } ∷ lines_from [] bs else lines_from (front ++ b ∷ []) bs
+-- the lines that the pieces between LFs are: there was an LF behind each piece but the last
+abbrev pub lines_in : List (List ℕ) → List TraceLine
+lines_in [] = []
+lines_in (last ∷ []) = last_line last
+lines_in (text ∷ next ∷ pieces) = record { text = text; size = length text + 1 } ∷ lines_in (next ∷ pieces)
 
-abbrev pub lines : List ℕ → List TraceLine
-lines bytes = lines_from [] bytes
+-- the lines of a trace's bytes
+unfoldable pub lines : List ℕ → List TraceLine
+lines bytes = lines_in (slice_split (λ b. b == 10) bytes)
 
 -- spaces, tabs and CR alone
 abbrev pub is_blank : List ℕ → Bool
@@ -47,10 +48,12 @@ pub data Reading : Type 0 where
 abbrev pub event_name : Tree → Option (List ℕ)
 event_name message = option_and_then text_in (member_of (codes "event") message)
 
+-- whether there is a text and it is this one
 abbrev pub is_text : Option (List ℕ) → List ℕ → Bool
 is_text None other = false
 is_text (Some text) other = bytes_eq text other
 
+-- whether it is a List
 abbrev pub is_list : Tree → Bool
 is_list (list ts) = true
 is_list _ = false
@@ -59,6 +62,7 @@ is_list _ = false
 abbrev pub is_built : Tree → Bool
 is_built message = not (is_list message) && not (is_text (event_name message) (codes "gtm.js"))
 
+-- what a push of this value says, or of one that is no data
 abbrev pub push_of : Option Tree → Reading
 push_of None = bad 8
 push_of (Some message) = if is_built message then step (push message) else bad 8
@@ -68,6 +72,7 @@ abbrev pub form_of : json.Members → Reading
 form_of (json.member key d json.no_members) = if bytes_eq key (codes "push") then push_of (plain d) else bad 8
 form_of _ = bad 8
 
+-- what a line with this JSON tree says, or one without
 abbrev pub step_in : Option json.Data → Reading
 step_in None = bad 2
 step_in (Some (json.object ms)) = form_of ms
@@ -86,16 +91,33 @@ pub record Trace : Type 0 where
   pub steps : List Step
   pub refusal : Option BadLine
 
-abbrev pub line_then : ℕ → Reading → Trace → Trace
-line_then number blank rest = rest
-line_then number (step s) rest = record { steps = s ∷ rest.steps; refusal = rest.refusal }
-line_then number (bad rule) rest = record { steps = []; refusal = Some (record { line = number; rule = rule }) }
+-- what each line says, with the bytes before it counted
+abbrev pub readings : ℕ → List TraceLine → List Reading
+readings before lines = scan (λ before line. before + line.size) read_line before lines
 
--- the trace from a line on, by its number and the bytes before it
-abbrev pub trace_from : ℕ → ℕ → List TraceLine → Trace
-trace_from number before [] = record { steps = []; refusal = None }
-trace_from number before (line ∷ lines) = line_then number (read_line before line) (trace_from (number + 1) (before + line.size) lines)
+-- it breaks a rule
+abbrev pub is_bad : Reading → Bool
+is_bad (bad rule) = true
+is_bad _ = false
 
--- the trace of a file's bytes
-abbrev pub trace_of : List ℕ → Trace
-trace_of bytes = trace_from 1 0 (lines bytes)
+-- the step that a line asks for
+abbrev pub asked : Reading → Option Step
+asked (step s) = Some s
+asked _ = None
+
+-- the refusal of a line by its number, where it breaks a rule
+abbrev pub refused_by : ℕ → Reading → Option BadLine
+refused_by number (bad rule) = Some (record { line = number; rule = rule })
+refused_by number _ = None
+
+-- the refusals of the lines that break a rule, the first line having this number
+abbrev pub refusals : ℕ → List Reading → List BadLine
+refusals number said = filter_map (λ line. refused_by line.0 line.1) (enumerate_from number said)
+
+-- the trace of lines that say this: the steps asked for before the first bad line, and the refusal of that line
+abbrev pub trace_in : ℕ → List Reading → Trace
+trace_in number said = record { steps = filter_map asked (before_first is_bad said); refusal = slice_get (refusals number said) 0 }
+
+-- the trace of a file's bytes, its lines numbered from 1
+unfoldable pub trace_of : List ℕ → Trace
+trace_of bytes = trace_in 1 (readings 0 (lines bytes))

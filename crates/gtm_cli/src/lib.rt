@@ -10,6 +10,7 @@ mod export;
 mod export_file;
 mod failure;
 mod json;
+mod laws;
 mod lines;
 mod replaying;
 mod reporting;
@@ -19,4 +20,5 @@ mod top;
 mod trace_file;
 mod words;
 
+pub use laws::{runs_count_their_steps, runs_go_on};
 pub use top::replay;

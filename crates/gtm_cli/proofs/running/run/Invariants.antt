@@ -1,7 +1,8 @@
 use Rattle.std.proofs.Common.{◌≡◌, ◌≤◌, ◌<◌, ◌+◌, length}
 use Rattle.std.specs.Prelude.{IsSome}
 use Rattle.data_layer.specs.Layer.{seen}
-use Rattle.gtm_cli.specs.Trace.{lines, trace_from, trace_of}
+use Rattle.gtm_cli.specs.Trace.{lines, trace_of}
+use Rattle.gtm_cli.proofs.Walk.{trace_from}
 use Rattle.gtm_cli.specs.Run.{text_from, run_text}
 use Rattle.gtm_cli.specs.StateOf.{state_of}
 use Rattle.gtm_cli.specs.Turn.{OnTheWay}
