@@ -4,6 +4,7 @@ pub mod Items
 pub mod Members
 pub mod MergedKeys
 pub mod Nested
+pub mod PartByPart
 pub mod Parts
 pub mod Results
 pub mod Shapes

@@ -14,6 +14,7 @@ mod measuring;
 mod merging;
 mod nesting;
 mod taking;
+mod under;
 
 pub use laws::{merge_goes_by_paths, merge_keeps_keys_distinct, paths_determine_the_merge};
 pub use layer::Layer;

@@ -1,4 +1,5 @@
 ghost use Rattle.std.specs.Prelude.{◌≡◌, ◌≤◌, ◌<◌, OnOk, length};
+ghost use Rattle.std.specs.Str.{chars};
 ghost use Rattle.gtm_data.specs.Tree.{tree_of, trees_of, entries_of};
 ghost use Rattle.data_layer.specs.Merge as spec;
 ghost use Rattle.data_layer.specs.Merge.{put, on_item};
@@ -63,23 +64,23 @@ fn merge_members(alloc: Global, members: &Members, model: &mut Members) -> Resul
     ensures { OnOk result (entries_of model.new.pairs ≡ spec.merge_members (entries_of members.now.pairs) (entries_of model.old.pairs)) }
 {
     for member in members.as_slice() {
-        merge_member(alloc, &member.0, &member.1, model)?;
+        merge_member(alloc, member.0.as_str(), &member.1, model)?;
     }
     Ok(())
 }
 
-// Merges a value into the one at its key, or puts it last.
+/// Merges a value into the one at its key, or puts a copy of it last.
 #[cycle(merge)]
-fn merge_member(
+pub fn merge_member(
     alloc: Global,
-    key: &Text,
+    key: &str,
     value: &Data,
     model: &mut Members,
 ) -> Result<(), OutOfMemory>
-    ensures { OnOk result (entries_of model.new.pairs ≡ put key.now (spec.merge (tree_of value.now)) (tree_of value.now) (entries_of model.old.pairs)) }
+    ensures { OnOk result (entries_of model.new.pairs ≡ put (chars key.now) (spec.merge (tree_of value.now)) (tree_of value.now) (entries_of model.old.pairs)) }
 {
-    match model.place_of(key.as_str()) {
+    match model.place_of(key) {
         Some(at) => merge(alloc, value, model.value_mut(at)),
-        None => model.push(key.copy(alloc)?, copy(alloc, value)?),
+        None => model.push(Text::from_str(alloc, key)?, copy(alloc, value)?),
     }
 }

@@ -1,14 +1,11 @@
 ghost use Rattle.std.specs.Prelude.{◌≡◌, not, IfOk, OnOk};
-ghost use Rattle.std.specs.Str.{chars};
-ghost use Rattle.gtm_data.specs.Paths.{dotted};
 ghost use Rattle.gtm_data.specs.Tree.{tree_of, entries_of};
 ghost use Rattle.data_layer.specs.Layer as spec;
-ghost use Rattle.data_layer.specs.Layer.{is_ignored, after_members, version_one_after, nest};
+ghost use Rattle.data_layer.specs.Layer.{is_ignored, after_members, version_one_after};
 ghost use Rattle.data_layer.specs.Merge as merges;
 
 use crate::measuring::is_too_deep;
-use crate::merging::merge;
-use crate::nesting::nested;
+use crate::under::merge_under;
 use gtm_base::{OutOfMemory, Text};
 use gtm_data::{Data, Members, copy};
 use std::alloc::Global;
@@ -43,18 +40,10 @@ fn take_members(
     ensures put { OnOk result (entries_of version_one.new.pairs ≡ version_one_after (entries_of members.now.pairs) (entries_of version_one.old.pairs)) }
 {
     for member in members.as_slice() {
-        merge_at(alloc, member.0.as_str(), &member.1, model)?;
+        merge_under(alloc, member.0.as_str(), &member.1, model)?;
         put_value(alloc, &member.0, &member.1, version_one)?;
     }
     Ok(())
-}
-
-// Merges a value under the parts of its key.
-fn merge_at(alloc: Global, key: &str, value: &Data, model: &mut Data) -> Result<(), OutOfMemory>
-    ensures { OnOk result (tree_of model.new ≡ merges.merge (nest (dotted (chars key.now)) (tree_of value.now)) (tree_of model.old)) }
-{
-    let nested = nested(alloc, key, value)?;
-    merge(alloc, &nested, model)
 }
 
 // Puts a value in place of the one at its key, or last.

@@ -1,5 +1,6 @@
 use Rattle.std.proofs.Common.{◌≡◌, ◌≤◌, ◌<◌, Some, None, length, suc, [], ◌∷◌, ◌++◌, drop, sym, ap, ◌∙◌, arith, add-one}
 use Rattle.std.proofs.Math.ListN.{drop_of_length-le}
+use Rattle.std.specs.Str.{chars}
 use Rattle.gtm_base.specs.Keys.{place_of}
 use Rattle.gtm_data.proofs.Lists.{next}
 use Rattle.gtm_data.specs.Tree.{tree_of, trees_of, entries_of}
@@ -51,20 +52,20 @@ merge_items-returns t c =
 
 pub merge_member-returns-in-Some : goal.merge_member-returns-in-Some
 merge_member-returns-in-Some t c =
-    let key = c.args.key.now in
+    let key = chars c.args.key.now in
     let model = c.args.model.now.pairs in
     let value = tree_of c.args.value.now in
-    let place : place_of key model ≡ Some c.in-Some.at = ap (λ k. place_of k model) (sym c.as_str.ensures.chars) ∙ sym c.place_of.ensures.place ∙ c.in-Some.is in
+    let place : place_of key model ≡ Some c.in-Some.at = sym c.place_of.ensures.place ∙ c.in-Some.is in
     on_ok c.merge.result c.merge.ensures (λ made. set_member key (spec.merge value) value model c.in-Some.at c.value_mut.result.now c.merge.new.model place c.value_mut.ensures.value made)
 
-pub merge_member-returns-in_ok-copy-in-None-2 : goal.merge_member-returns-in_ok-copy-in-None-2
-merge_member-returns-in_ok-copy-in-None-2 t c =
-    let key = c.args.key.now in
+pub merge_member-returns-in_ok-copy-in-None : goal.merge_member-returns-in_ok-copy-in-None
+merge_member-returns-in_ok-copy-in-None t c =
+    let key = chars c.args.key.now in
     let model = c.args.model.now.pairs in
     let value = tree_of c.args.value.now in
-    let place : place_of key model ≡ None = ap (λ k. place_of k model) (sym c.as_str.ensures.chars) ∙ sym c.place_of.ensures.place ∙ c.in-None.is in
-    let made = c.in_ok-copy-in-None-2 in
-    on_ok c.push.result c.push.ensures.ok (λ added. ap entries_of added ∙ (λ i. entries_of (model ++ (c.in_ok-copy-in-None.ensures i, made.field-0) ∷ [])) ∙ add_member key (spec.merge value) value model made.field-0 place (ap tree_of made.ensures))
+    let place : place_of key model ≡ None = sym c.place_of.ensures.place ∙ c.in-None.is in
+    let made = c.in_ok-copy-in-None in
+    on_ok c.push.result c.push.ensures.ok (λ added. ap entries_of added ∙ (λ i. entries_of (model ++ (c.in_ok-from_str-in-None.ensures i, made.field-0) ∷ [])) ∙ add_member key (spec.merge value) value model made.field-0 place (ap tree_of made.ensures))
 
 pub merge_members-loop-member-preserved : goal.merge_members-loop-member-preserved
 unfolding spec.merge_members
@@ -76,7 +77,7 @@ merge_members-loop-member-preserved t c =
     let within : l.member-index < length members = rw (← same) c.loop-member-test.true in
     let left : drop l.member-index members ≡ x ∷ drop (suc l.member-index) members = next c.as_slice-member-items.result.now members l.member-index x same within c.member-item.is in
     rw add-one
-    (ap (spec.merge_members (entries_of (drop (suc l.member-index) members))) c.in_ok-merge_member.ensures
+    (ap (spec.merge_members (entries_of (drop (suc l.member-index) members))) (c.in_ok-merge_member.ensures ∙ ap (λ key. spec.put key (spec.merge (tree_of x.1)) (tree_of x.1) (entries_of l.model.pairs)) c.as_str.ensures.chars)
     ∙ ap (λ rest. spec.merge_members (entries_of rest) (entries_of l.model.pairs)) (sym left)
     ∙ l.invariant)
 

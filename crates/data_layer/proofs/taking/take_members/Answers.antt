@@ -20,7 +20,7 @@ loop-member-preserved c =
     record {
       merged =
           rw add-one
-          (ap (after_members later) (c.in_ok-merge_at.ensures ∙ ap (λ k. merge (nest (dotted k) (tree_of x.1)) (tree_of l.model)) c.as_str.ensures.chars)
+          (ap (after_members later) (c.in_ok-merge_under.ensures ∙ ap (λ k. merge (nest (dotted k) (tree_of x.1)) (tree_of l.model)) c.as_str.ensures.chars)
           ∙ ap (λ rest. after_members (entries_of rest) (tree_of l.model)) (sym left)
           ∙ l.invariant.merged);
       put =
