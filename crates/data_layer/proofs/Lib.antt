@@ -1,6 +1,8 @@
 pub mod Afters
 pub mod Determined
 pub mod Items
+pub mod LastValues
+pub mod LayerKeys
 pub mod Members
 pub mod MergedKeys
 pub mod Nested

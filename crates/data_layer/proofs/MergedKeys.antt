@@ -23,7 +23,7 @@ module _ (name : List ℕ) (change : Tree → Tree) (t : Tree) where
     put_distinct_at true other m ms is distinct later = (distinct.0, keeps m distinct.1, distinct.2)
     put_distinct_at false other m ms is distinct later = (has_member_put other ms (bytes_eq-sym name other ∙ is) ∙ distinct.0, distinct.1, later)
 
-    put_distinct : (ms : Entries) → DistinctEntries ms → DistinctEntries (put name change t ms)
+    pub put_distinct : (ms : Entries) → DistinctEntries ms → DistinctEntries (put name change t ms)
     put_distinct none distinct = (refl, distinct_t, tt)
     put_distinct (entry other m ms) distinct = put_distinct_at (bytes_eq other name) other m ms refl distinct (put_distinct ms distinct.2)
 

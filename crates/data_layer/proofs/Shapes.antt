@@ -72,7 +72,7 @@ new_keys_more name old (entry key t es) lacks =
     let among = is_among_more key name old (bytes_eq-sym name key ∙ apart.0) in
     λ i. if among i then new_keys_more name old es apart.1 i else key ∷ new_keys_more name old es apart.1 i
 
-keys_turn : (test : Bool) (name : List ℕ) (old : List (List ℕ)) (es : Entries) → has_member name es ≡ false
+pub keys_turn : (test : Bool) (name : List ℕ) (old : List (List ℕ)) (es : Entries) → has_member name es ≡ false
     → (if test then old else old ++ name ∷ []) ++ new_keys (if test then old else old ++ name ∷ []) (keys es) ≡ old ++ (if test then new_keys old (keys es) else name ∷ new_keys old (keys es))
 keys_turn true name old es lacks = refl
 keys_turn false name old es lacks = ap (λ more. (old ++ name ∷ []) ++ more) (new_keys_more name old es lacks) ∙ append_assoc old (name ∷ []) (new_keys old (keys es))

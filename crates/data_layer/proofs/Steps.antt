@@ -37,7 +37,7 @@ module _ (name : List ℕ) (change : Tree → Tree) (t : Tree) where
   put_same_at true other m ms is later = rw is refl
   put_same_at false other m ms is later = rw is later
 
-  put_same : (ms : Entries) → member name (put name change t ms) ≡ Some (changed change t (member name ms))
+  pub put_same : (ms : Entries) → member name (put name change t ms) ≡ Some (changed change t (member name ms))
   put_same none = rw (same_key name) refl
   put_same (entry other m ms) = put_same_at (bytes_eq other name) other m ms refl (put_same ms)
 
@@ -48,7 +48,7 @@ module _ (name : List ℕ) (change : Tree → Tree) (t : Tree) where
       rw unlike refl
   put_other_at false sought other m ms is apart later = ap (λ found. if bytes_eq other sought then Some m else found) later
 
-  put_other : (sought : List ℕ) (ms : Entries) → bytes_eq name sought ≡ false → member sought (put name change t ms) ≡ member sought ms
+  pub put_other : (sought : List ℕ) (ms : Entries) → bytes_eq name sought ≡ false → member sought (put name change t ms) ≡ member sought ms
   put_other sought none apart = rw apart refl
   put_other sought (entry other m ms) apart = put_other_at (bytes_eq other name) sought other m ms refl apart (put_other sought ms apart)
 

@@ -3,6 +3,7 @@ use Rattle.std.specs.Prelude.{ℕ, ◌+◌, nat_lt, ◌==◌, List, [], ◌∷�
 use Rattle.gtm_data.specs.declared.data.Data.{Data}
 use Rattle.gtm_data.specs.Tree.{Tree, object, Entries, none, entry, depth, tree_of, entries_of}
 use Rattle.gtm_data.specs.Paths.{dotted, walk, member}
+use Rattle.gtm_data.specs.Distinct.{Distinct, DistinctEntries}
 use Rattle.data_layer.specs.Merge.{merge, put}
 
 -- the merged model, and the value that the last message with a whole key gave it
@@ -12,6 +13,11 @@ pub record LayerState : Type 0 where
 
 abbrev pub empty_layer : LayerState
 empty_layer = record { model = object none; version_one = none }
+
+-- no Map of the model, and none of the values of version 1, has a key twice, and no two of those values have the same key
+pub record DistinctLayer (layer : LayerState) : Type 0 where
+  pub model : Distinct layer.model
+  pub version_one : DistinctEntries layer.version_one
 
 -- the value nested in Maps under the parts of its key
 abbrev pub nest : List (List ℕ) → Tree → Tree

@@ -1,7 +1,10 @@
-ghost use Rattle.std.specs.Prelude.{◌≡◌};
-ghost use Rattle.gtm_data.specs.Distinct.{Distinct};
-ghost use Rattle.gtm_data.specs.Tree.{Tree};
-ghost use Rattle.data_layer.specs.After.{After};
+ghost use Rattle.std.specs.Prelude.{◌≡◌, ℕ, List, ◌++◌};
+ghost use Rattle.std.specs.Option.{option_or};
+ghost use Rattle.gtm_data.specs.Distinct.{Distinct, DistinctEntries};
+ghost use Rattle.gtm_data.specs.Paths.{member};
+ghost use Rattle.gtm_data.specs.Tree.{Tree, Entries};
+ghost use Rattle.data_layer.specs.After.{After, keys, new_keys};
+ghost use Rattle.data_layer.specs.Layer.{LayerState, DistinctLayer, empty_layer, after_message, version_one_after};
 ghost use Rattle.data_layer.specs.Merge.{merge};
 
 /// A law, with nothing to call: path by path, the merge of a tree into another is what `After` says of it.
@@ -17,4 +20,16 @@ pub fn paths_determine_the_merge()
 /// A law, with nothing to call: the merge gives no Map a key twice.
 pub fn merge_keeps_keys_distinct()
     ensures { (n m : Tree) → Distinct n → Distinct m → Distinct (merge n m) }
+{}
+
+/// A law, with nothing to call: in version 1 a whole key has the value that the message gives it, or else the one from before; and the keys stand as before, with the new ones behind them.
+pub fn version_one_keeps_the_last_value()
+    ensures value { (name : List ℕ) (message old : Entries) → DistinctEntries message → member name (version_one_after message old) ≡ option_or (member name message) (member name old) }
+    ensures keys { (message old : Entries) → DistinctEntries message → keys (version_one_after message old) ≡ keys old ++ new_keys (keys old) (keys message) }
+{}
+
+/// A law, with nothing to call: a layer starts with no key twice, and no message gives it one.
+pub fn messages_keep_keys_distinct()
+    ensures empty { DistinctLayer empty_layer }
+    ensures kept { (message : Tree) (layer : LayerState) → Distinct message → DistinctLayer layer → DistinctLayer (after_message message layer) }
 {}
