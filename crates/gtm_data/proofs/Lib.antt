@@ -6,5 +6,6 @@ pub mod Joined
 pub mod Levels
 pub mod Lists
 pub mod Members
+pub mod Nodes
 pub mod Shallow
 pub mod Wholes

@@ -1,5 +1,5 @@
 -- The data of a JSON tree.
-use Rattle.std.specs.Prelude.{ℕ, zero, suc, ◌+◌, ℤ, pos, negsuc, List, [], ◌∷◌, ◌++◌, ◌&&◌, Option, Some, None, option_and_then, is_some, codes, ◌==◌, unwrap_or, if◌then◌else◌, int_lt, decimal}
+use Rattle.std.specs.Prelude.{ℕ, ◌+◌, ℤ, pos, negsuc, List, [], ◌∷◌, ◌++◌, map, find, Bool, true, false, not, ◌&&◌, Option, Some, None, option_map, option_and_then, is_some, codes, ◌==◌, nat_le, unwrap_or, if◌then◌else◌, int_lt, decimal}
 use Rattle.std.specs.List.{flat_map}
 use Rattle.std.specs.Str.{chars}
 use Rattle.serde_json.specs.Data as json
@@ -36,60 +36,82 @@ unfoldable mutual
 abbrev pub pointer_char : ℕ → List ℕ
 pointer_char c = if c == 126 then codes "~0" else (if c == 47 then codes "~1" else c ∷ [])
 
--- a JSON pointer, one key further
-abbrev pub at_key : List ℕ → List ℕ → List ℕ
-at_key path name = path ++ 47 ∷ flat_map pointer_char name
+-- the part of a JSON pointer that leads to the member with this key
+abbrev pub key_step : List ℕ → List ℕ
+key_step name = 47 ∷ flat_map pointer_char name
 
--- a JSON pointer, one index further
-abbrev pub at_index : List ℕ → ℕ → List ℕ
-at_index path place = path ++ 47 ∷ decimal place
+-- the part of a JSON pointer that leads to the item at this place
+abbrev pub index_step : ℕ → List ℕ
+index_step place = 47 ∷ decimal place
 
--- the first path, or the other where there is none
-abbrev pub or_else : Option (List ℕ) → Option (List ℕ) → Option (List ℕ)
-or_else None other = other
-or_else (Some path) other = Some path
+-- a value within a JSON tree: the JSON pointer to it (RFC 6901), in how many Lists and Maps it stands, and the value
+pub record Node : Type 0 where
+  pub path : List ℕ
+  pub above : ℕ
+  pub value : json.Data
 
--- the path of the first number, in order of walking, that is not whole and in range
+-- a tree as the first of the values within it
+abbrev pub root : json.Data → Node
+root d = record { path = []; above = 0; value = d }
+
+-- a value within a tree, seen from the List or Map in which the tree stands at this step
+abbrev pub inside : List ℕ → Node → Node
+inside step node = record { path = step ++ node.path; above = node.above + 1; value = node.value }
+
+-- every value within a tree, in order of walking: a value before those inside it, items and members in their order
 unfoldable mutual
-  pub not_whole : List ℕ → json.Data → Option (List ℕ)
-  not_whole path json.null = None
-  not_whole path (json.boolean b) = None
-  not_whole path (json.number x) = if is_some (whole_of x) then None else Some path
-  not_whole path (json.string s) = None
-  not_whole path (json.array ds) = items_not_whole path 0 ds
-  not_whole path (json.object ms) = members_not_whole path ms
+  pub nodes : json.Data → List Node
+  nodes json.null = root json.null ∷ []
+  nodes (json.boolean b) = root (json.boolean b) ∷ []
+  nodes (json.number x) = root (json.number x) ∷ []
+  nodes (json.string s) = root (json.string s) ∷ []
+  nodes (json.array ds) = root (json.array ds) ∷ item_nodes 0 ds
+  nodes (json.object ms) = root (json.object ms) ∷ member_nodes ms
 
-  pub items_not_whole : List ℕ → ℕ → json.Items → Option (List ℕ)
-  items_not_whole path place json.no_items = None
-  items_not_whole path place (json.item d ds) = or_else (not_whole (at_index path place) d) (items_not_whole path (place + 1) ds)
+  -- every value within the items of a List, from the one at this place on
+  pub item_nodes : ℕ → json.Items → List Node
+  item_nodes place json.no_items = []
+  item_nodes place (json.item d ds) = map (inside (index_step place)) (nodes d) ++ item_nodes (place + 1) ds
 
-  pub members_not_whole : List ℕ → json.Members → Option (List ℕ)
-  members_not_whole path json.no_members = None
-  members_not_whole path (json.member key d ms) = or_else (not_whole (at_key path (chars key)) d) (members_not_whole path ms)
+  -- every value within the members of a Map
+  pub member_nodes : json.Members → List Node
+  member_nodes json.no_members = []
+  member_nodes (json.member key d ms) = map (inside (key_step (chars key))) (nodes d) ++ member_nodes ms
 
--- the path of the first List or Map, in order of walking, that has more Lists and Maps above it than are allowed
-unfoldable mutual
-  pub too_deep : ℕ → List ℕ → json.Data → Option (List ℕ)
-  too_deep allowed path json.null = None
-  too_deep allowed path (json.boolean b) = None
-  too_deep allowed path (json.number x) = None
-  too_deep allowed path (json.string s) = None
-  too_deep zero path (json.array ds) = Some path
-  too_deep (suc allowed) path (json.array ds) = items_too_deep allowed path 0 ds
-  too_deep zero path (json.object ms) = Some path
-  too_deep (suc allowed) path (json.object ms) = members_too_deep allowed path ms
+-- the path of the first value of which this holds
+abbrev pub first_path : (Node → Bool) → List Node → Option (List ℕ)
+first_path holds ns = option_map (λ node. node.path) (find holds ns)
 
-  pub items_too_deep : ℕ → List ℕ → ℕ → json.Items → Option (List ℕ)
-  items_too_deep allowed path place json.no_items = None
-  items_too_deep allowed path place (json.item d ds) = or_else (too_deep allowed (at_index path place) d) (items_too_deep allowed path (place + 1) ds)
+-- whether it is a number that is not whole and in range
+abbrev pub is_unfit : json.Data → Bool
+is_unfit (json.number x) = not (is_some (whole_of x))
+is_unfit _ = false
 
-  pub members_too_deep : ℕ → List ℕ → json.Members → Option (List ℕ)
-  members_too_deep allowed path json.no_members = None
-  members_too_deep allowed path (json.member key d ms) = or_else (too_deep allowed (at_key path (chars key)) d) (members_too_deep allowed path ms)
+-- whether a value within a tree is such a number
+abbrev pub is_unfit_at : Node → Bool
+is_unfit_at node = is_unfit node.value
+
+-- whether it is a List or a Map
+abbrev pub is_nest : json.Data → Bool
+is_nest (json.array ds) = true
+is_nest (json.object ms) = true
+is_nest _ = false
+
+-- whether a value within a tree is a List or a Map with at least so many Lists and Maps above it
+abbrev pub is_nest_below : ℕ → Node → Bool
+is_nest_below allowed node = is_nest node.value && nat_le allowed node.above
 
 -- the depth that data may have
 abbrev pub depth_limit : ℕ
 depth_limit = 64
+
+-- the path of the first number that is not whole and in range
+abbrev pub not_whole : json.Data → Option (List ℕ)
+not_whole d = first_path is_unfit_at (nodes d)
+
+-- the path of the first List or Map that has as many Lists and Maps above it as data may be deep
+abbrev pub too_deep : json.Data → Option (List ℕ)
+too_deep d = first_path (is_nest_below depth_limit) (nodes d)
 
 -- the tree, where there is neither path
 abbrev pub tree_unless : Option (List ℕ) → Option (List ℕ) → Tree → Option Tree
@@ -98,4 +120,4 @@ tree_unless _ _ t = None
 
 -- the data of a JSON tree: there is some exactly where each number is whole and in range and it is not too deep
 abbrev pub plain : json.Data → Option Tree
-plain d = tree_unless (not_whole [] d) (too_deep depth_limit [] d) (tree_in d)
+plain d = tree_unless (not_whole d) (too_deep d) (tree_in d)

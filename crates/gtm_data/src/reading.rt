@@ -37,11 +37,10 @@ pub fn from_json(alloc: Global, tree: &Value) -> Result<Data, DataEnd>
     ensures ok { IfOk result (λ made. plain (view tree.now) ≡ Some (tree_of made)) }
     ensures err { IfErr result (Refuses (view tree.now)) }
 {
-    let root = Text::new(alloc);
-    if let Some(path) = not_whole(alloc, tree, &root)? {
+    if let Some(path) = not_whole(alloc, tree)? {
         return Err(DataEnd::NotWhole { path });
     }
-    if let Some(path) = too_deep(alloc, DEPTH_LIMIT, tree, &root)? {
+    if let Some(path) = too_deep(alloc, DEPTH_LIMIT, tree)? {
         return Err(DataEnd::TooDeep { path });
     }
     Ok(convert(alloc, tree)?)
