@@ -7,5 +7,6 @@ pub mod Levels
 pub mod Lists
 pub mod Members
 pub mod Nodes
+pub mod Quotes
 pub mod Shallow
 pub mod Wholes

@@ -1,5 +1,5 @@
 -- Compact JSON text, as a list of characters.
-use Rattle.std.specs.Prelude.{ℕ, ◌/◌, ◌%◌, ◌==◌, nat_lt, List, [], ◌∷◌, ◌++◌, codes, true, false, if◌then◌else◌}
+use Rattle.std.specs.Prelude.{ℕ, ◌/◌, ◌%◌, ◌==◌, nat_lt, nat_le, List, [], ◌∷◌, ◌++◌, codes, Bool, not, ◌&&◌, true, false, if◌then◌else◌}
 use Rattle.std.specs.Char.{digit_char}
 use Rattle.std.specs.Fmt.{signed_decimal}
 use Rattle.std.specs.List.{flat_map, join_with_byte}
@@ -21,6 +21,10 @@ escaped c =
 -- a text in quotes
 abbrev pub quoted : List ℕ → List ℕ
 quoted characters = 34 ∷ flat_map escaped characters ++ 34 ∷ []
+
+-- whether a byte of a text in UTF-8 needs no escape within quotes
+abbrev pub is_plain_byte : ℕ → Bool
+is_plain_byte b = nat_le 32 b && not (b == 34) && not (b == 92)
 
 -- what stands before the item or member at this place
 abbrev pub comma_before : ℕ → List ℕ

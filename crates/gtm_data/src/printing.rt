@@ -1,8 +1,8 @@
 ghost use Rattle.std.specs.Prelude.{◌≡◌, ◌<◌, ◌++◌, ◌∷◌, [], IfOk, OnOk};
 ghost use Rattle.std.specs.Char.{digit_char};
-ghost use Rattle.std.specs.List.{join_with_byte};
+ghost use Rattle.std.specs.List.{flat_map, join_with_byte, list_all};
 ghost use Rattle.std.specs.Str.{chars};
-ghost use Rattle.gtm_data.specs.JsonText.{json_text, item_texts, member_texts, quoted, escaped, comma_before};
+ghost use Rattle.gtm_data.specs.JsonText.{json_text, item_texts, member_texts, quoted, escaped, is_plain_byte, comma_before};
 ghost use Rattle.gtm_data.specs.Tree.{tree_of, trees_of, entries_of};
 
 use crate::data::{Data, Items, Members};
@@ -92,10 +92,29 @@ pub fn write_quoted(out: &mut Text, text: &str) -> Result<(), OutOfMemory>
     ensures { OnOk result (out.new ≡ out.old ++ quoted (chars text.now)) }
 {
     out.push('"')?;
+    if is_plain(text) {
+        out.push_str(text)?;
+    } else {
+        write_characters(out, text)?;
+    }
+    out.push('"')?;
+    Ok(())
+}
+
+// Whether the text stands within quotes as it is, as most do.
+fn is_plain(text: &str) -> bool
+    ensures { result ≡ list_all is_plain_byte text.now }
+{
+    text.bytes()
+        .all(|byte| byte >= b' ' && byte != b'"' && byte != b'\\')
+}
+
+fn write_characters(out: &mut Text, text: &str) -> Result<(), OutOfMemory>
+    ensures { OnOk result (out.new ≡ out.old ++ flat_map escaped (chars text.now)) }
+{
     for c in text.chars() {
         write_escaped(out, c)?;
     }
-    out.push('"')?;
     Ok(())
 }
 
