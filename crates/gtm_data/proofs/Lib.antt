@@ -1,5 +1,6 @@
 pub mod Converted
 pub mod Distincts
+pub mod Dotless
 pub mod Dots
 pub mod Indexes
 pub mod Joined
@@ -9,4 +10,5 @@ pub mod Members
 pub mod Nodes
 pub mod Quotes
 pub mod Shallow
+pub mod Walks
 pub mod Wholes

@@ -1,5 +1,5 @@
 -- Paths of keys and indexes into a tree, and dotted texts.
-use Rattle.std.specs.Prelude.{ℕ, zero, suc, ◌+◌, ◌==◌, List, [], ◌∷◌, decimal, Option, Some, None, option_and_then, if◌then◌else◌}
+use Rattle.std.specs.Prelude.{◌≡◌, ℕ, zero, suc, ◌+◌, ◌^◌, ◌<◌, ◌==◌, List, [], ◌∷◌, ◌++◌, map, All, Contains, decimal, Option, Some, None, option_and_then, if◌then◌else◌}
 use Rattle.std.specs.Str.{bytes_eq}
 use Rattle.gtm_data.specs.Tree.{Tree, list, object, Trees, end, item, Entries, none, entry}
 
@@ -45,6 +45,10 @@ abbrev pub dotted : List ℕ → List (List ℕ)
 dotted [] = [] ∷ []
 dotted (c ∷ cs) = if c == 46 then [] ∷ dotted cs else onto_first c (dotted cs)
 
+-- no part has a dot
+abbrev pub HaveNoDot : List (List ℕ) → Type 0
+HaveNoDot parts = All (λ part. ¬ Contains part 46) parts
+
 -- the item whose index, counted on from here, is written so in decimal digits
 abbrev pub numbered : ℕ → List ℕ → Trees → Option Tree
 numbered at name end = None
@@ -60,3 +64,16 @@ named name _ = None
 abbrev pub walk : List (List ℕ) → Tree → Option Tree
 walk [] t = Some t
 walk (part ∷ parts) t = option_and_then (walk parts) (named part t)
+
+-- what a path has for a step: the key itself, or the index in decimal digits
+abbrev pub written : Step → List ℕ
+written (key name) = name
+written (index place) = decimal place
+
+-- the steps of a path are written so, one after the other
+pub record Writes (path : List Step) (parts : List (List ℕ)) : Type 0 where
+  pub each : map written path ≡ parts
+
+-- no List within it has more than 2 ^ 64 items
+pub record IsIndexed (t : Tree) : Type 0 where
+  pub below : (path : List Step) (place : ℕ) (v : Tree) → at (path ++ index place ∷ []) t ≡ Some v → place < 2 ^ 64

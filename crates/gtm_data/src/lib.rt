@@ -4,7 +4,8 @@
 //! tree exactly where its numbers are whole and in range and it nests at most 64 deep, and else names the first fault.
 //! `json_text`, `write_json`, `write_quoted` and `text_of` write exactly the texts of `specs/`, `copy` gives an equal
 //! value, `member` and `get` find exactly what stands at a key or path, and `whole_text` reads exactly the whole
-//! numbers in range. Otherwise only memory can be wanting. No Map has a key twice: `keys_are_distinct`.
+//! numbers in range. Otherwise only memory can be wanting. No Map has a key twice: `keys_are_distinct`. What a path is
+//! follows from `dotted_texts_are_their_parts` and `get_goes_by_steps`.
 #![tactic(auto)]
 
 mod copying;
@@ -19,7 +20,10 @@ mod walking;
 
 pub use copying::copy;
 pub use data::{Data, Items, Members};
-pub use laws::{data_is_plain_exactly_where_it_is_shallow, keys_are_distinct};
+pub use laws::{
+    data_is_plain_exactly_where_it_is_shallow, dotted_texts_are_their_parts, get_goes_by_steps,
+    keys_are_distinct,
+};
 pub use numbers::whole_text;
 pub use printing::{json_text, write_json, write_quoted};
 pub use reading::{DataEnd, from_json};
