@@ -14,14 +14,14 @@ pub fn json_text(alloc: Global, value: &Data) -> Result<Text, OutOfMemory>
     ensures { IfOk result (λ text. text ≡ json_text (tree_of value.now)) }
 {
     let mut out = Text::new(alloc);
-    write_json(alloc, &mut out, value)?;
+    write_json(&mut out, value)?;
     Ok(out)
 }
 
 /// Puts the JSON text of a value behind a text. Where memory is wanting, a part of it may stand there.
 #[cycle(json)]
 #[tactic(auto, unfolding(crate::specs::JsonText::json_text))]
-pub fn write_json(alloc: Global, out: &mut Text, value: &Data) -> Result<(), OutOfMemory>
+pub fn write_json(out: &mut Text, value: &Data) -> Result<(), OutOfMemory>
     ensures { OnOk result (out.new ≡ out.old ++ json_text (tree_of value.now)) }
 {
     match value {
@@ -33,12 +33,12 @@ pub fn write_json(alloc: Global, out: &mut Text, value: &Data) -> Result<(), Out
         Data::Text(text) => write_quoted(out, text.as_str()),
         Data::List(items) => {
             out.push('[')?;
-            write_items(alloc, out, items)?;
+            write_items(out, items)?;
             out.push(']')
         }
         Data::Map(members) => {
             out.push('{')?;
-            write_members(alloc, out, members)?;
+            write_members(out, members)?;
             out.push('}')
         }
         Data::Foreign => out.push_word("function"),
@@ -47,24 +47,24 @@ pub fn write_json(alloc: Global, out: &mut Text, value: &Data) -> Result<(), Out
 }
 
 #[cycle(json)]
-fn write_items(alloc: Global, out: &mut Text, items: &Items) -> Result<(), OutOfMemory>
+fn write_items(out: &mut Text, items: &Items) -> Result<(), OutOfMemory>
     ensures { OnOk result (out.new ≡ out.old ++ join_with_byte 44 (item_texts (trees_of items.now))) }
 {
     for (at, item) in items.as_slice().iter().enumerate() {
         write_comma(out, at)?;
-        write_json(alloc, out, item)?;
+        write_json(out, item)?;
     }
     Ok(())
 }
 
 #[cycle(json)]
-fn write_members(alloc: Global, out: &mut Text, members: &Members) -> Result<(), OutOfMemory>
+fn write_members(out: &mut Text, members: &Members) -> Result<(), OutOfMemory>
     ensures { OnOk result (out.new ≡ out.old ++ join_with_byte 44 (member_texts (entries_of members.now.pairs))) }
 {
     for (at, member) in members.as_slice().iter().enumerate() {
         write_comma(out, at)?;
         write_key(out, &member.0)?;
-        write_json(alloc, out, &member.1)?;
+        write_json(out, &member.1)?;
     }
     Ok(())
 }

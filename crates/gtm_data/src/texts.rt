@@ -13,13 +13,13 @@ pub fn text_of(alloc: Global, value: &Data) -> Result<Text, OutOfMemory>
     ensures { IfOk result (λ text. text ≡ text_of (tree_of value.now)) }
 {
     let mut out = Text::new(alloc);
-    write_text(alloc, &mut out, value)?;
+    write_text(&mut out, value)?;
     Ok(out)
 }
 
 #[cycle(text)]
 #[tactic(auto, unfolding(crate::specs::TextOf::text_of))]
-fn write_text(alloc: Global, out: &mut Text, value: &Data) -> Result<(), OutOfMemory>
+fn write_text(out: &mut Text, value: &Data) -> Result<(), OutOfMemory>
     ensures { OnOk result (out.new ≡ out.old ++ text_of (tree_of value.now)) }
 {
     match value {
@@ -29,7 +29,7 @@ fn write_text(alloc: Global, out: &mut Text, value: &Data) -> Result<(), OutOfMe
         Data::Bool(false) => out.push_word("false"),
         Data::Whole(number) => out.push_signed(*number),
         Data::Text(text) => out.push_str(text.as_str()),
-        Data::List(items) => write_texts(alloc, out, items),
+        Data::List(items) => write_texts(out, items),
         Data::Map(_) => out.push_word("[object Object]"),
         Data::Foreign => out.push_word("[function]"),
         Data::Callback(_) => out.push_word("[function]"),
@@ -37,12 +37,12 @@ fn write_text(alloc: Global, out: &mut Text, value: &Data) -> Result<(), OutOfMe
 }
 
 #[cycle(text)]
-fn write_texts(alloc: Global, out: &mut Text, items: &Items) -> Result<(), OutOfMemory>
+fn write_texts(out: &mut Text, items: &Items) -> Result<(), OutOfMemory>
     ensures { OnOk result (out.new ≡ out.old ++ join_with_byte 44 (texts_of (trees_of items.now))) }
 {
     for (at, item) in items.as_slice().iter().enumerate() {
         write_comma(out, at)?;
-        write_text(alloc, out, item)?;
+        write_text(out, item)?;
     }
     Ok(())
 }

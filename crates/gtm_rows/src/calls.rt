@@ -59,7 +59,7 @@ fn values(rt: HostRuntime) -> Result<(), Fail> {
     assert_eq!(rt; json_text(alloc, &copy(alloc, &made)?)?.as_str(), source);
     let mut out = Text::new(alloc);
     write_quoted(&mut out, "q")?;
-    write_json(alloc, &mut out, &Data::Bool(true))?;
+    write_json(&mut out, &Data::Bool(true))?;
     assert_eq!(rt; out.as_str(), "\"q\"true");
     match get(&made, "a.1.b") {
         Some(found) => assert_eq!(rt; text_of(alloc, found)?.as_str(), "x/y"),

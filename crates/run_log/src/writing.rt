@@ -56,18 +56,18 @@ fn whole_line(alloc: Global, line: &Line) -> Result<Text, OutOfMemory>
     ensures { IfOk result (λ text. text ≡ line_text (line_of line.now) ++ 10 ∷ []) }
 {
     let mut text = Text::with_room(alloc, ROOM)?;
-    write_line(alloc, &mut text, line)?;
+    write_line(&mut text, line)?;
     text.push('\n')?;
     Ok(text)
 }
 
-fn write_line(alloc: Global, text: &mut Text, line: &Line) -> Result<(), OutOfMemory>
+fn write_line(text: &mut Text, line: &Line) -> Result<(), OutOfMemory>
     ensures { OnOk result (text.new ≡ text.old ++ line_text (line_of line.now)) }
 {
     match line {
         Line::Message { value, ignored } => {
             text.push_word("message ")?;
-            write_json(alloc, text, value)?;
+            write_json(text, value)?;
             if *ignored {
                 text.push_word(" ignored")?;
             }
@@ -79,7 +79,7 @@ fn write_line(alloc: Global, text: &mut Text, line: &Line) -> Result<(), OutOfMe
         },
         Line::Model { value } => {
             text.push_word("model ")?;
-            write_json(alloc, text, value)?;
+            write_json(text, value)?;
         },
         Line::End {
             steps,
