@@ -2,6 +2,7 @@
 use denote.RattleType.{RattleType}
 use Rattle.gtm_base.specs.contracts.keyed.Keyed as keyed
 use Rattle.gtm_base.specs.contracts.list.ListOf as list_of
+use Rattle.gtm_base.specs.contracts.text.Text as text
 use Rattle.gtm_data.specs.contracts.data.Data as data_row
 use Rattle.gtm_data.specs.Tree.{Tree, list, object}
 
@@ -12,6 +13,10 @@ items_row = list_of.the_row data_row.the_row
 -- the members of a Map
 abbrev pub members_row : RattleType
 members_row = keyed.the_row data_row.the_row
+
+-- the characters of a text
+abbrev pub text_row : RattleType
+text_row = text.the_row
 
 -- it is no List
 abbrev pub IsNoList : Tree → Type 0

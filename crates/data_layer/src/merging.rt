@@ -4,7 +4,7 @@ ghost use Rattle.gtm_data.specs.Tree.{tree_of, trees_of, entries_of};
 ghost use Rattle.data_layer.specs.Merge as spec;
 ghost use Rattle.data_layer.specs.Merge.{put, on_item};
 
-use crate::inside::{items_of, members_of};
+use crate::inside::{items_of, members_of, text_of};
 use gtm_base::{OutOfMemory, Text};
 use gtm_data::{Data, Items, Members, copy};
 use std::alloc::Global;
@@ -28,7 +28,20 @@ pub fn merge(alloc: Global, value: &Data, model: &mut Data) -> Result<(), OutOfM
     }
 }
 
-fn overwrite(alloc: Global, value: &Data, model: &mut Data) -> Result<(), OutOfMemory>
+/// Puts an equal value in place of another one. A text takes the place of a text in its memory.
+pub fn overwrite(alloc: Global, value: &Data, model: &mut Data) -> Result<(), OutOfMemory>
+    ensures { OnOk result (model.new ≡ value.now) }
+{
+    match value {
+        Data::Text(text) => match text_of(model) {
+            Some(old) => old.set(text.as_str()),
+            None => replace(alloc, value, model),
+        },
+        _ => replace(alloc, value, model),
+    }
+}
+
+fn replace(alloc: Global, value: &Data, model: &mut Data) -> Result<(), OutOfMemory>
     ensures { OnOk result (model.new ≡ value.now) }
 {
     *model = copy(alloc, value)?;

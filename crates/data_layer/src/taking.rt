@@ -5,6 +5,7 @@ ghost use Rattle.data_layer.specs.Layer.{is_ignored, after_members, version_one_
 ghost use Rattle.data_layer.specs.Merge as merges;
 
 use crate::measuring::is_too_deep;
+use crate::merging::overwrite;
 use crate::under::merge_under;
 use gtm_base::{OutOfMemory, Text};
 use gtm_data::{Data, Members, copy};
@@ -55,12 +56,8 @@ fn put_value(
 ) -> Result<(), OutOfMemory>
     ensures { OnOk result (entries_of values.new.pairs ≡ merges.put key.now (λ _. tree_of value.now) (tree_of value.now) (entries_of values.old.pairs)) }
 {
-    let value = copy(alloc, value)?;
     match values.place_of(key.as_str()) {
-        Some(at) => {
-            *values.value_mut(at) = value;
-            Ok(())
-        },
-        None => values.push(key.copy(alloc)?, value),
+        Some(at) => overwrite(alloc, value, values.value_mut(at)),
+        None => values.push(key.copy(alloc)?, copy(alloc, value)?),
     }
 }
