@@ -1,8 +1,15 @@
--- Files on the disk, as contracts see them.
+-- Files on the disk and streams of the system, as contracts see them.
 use Rattle.std.specs.Prelude.{ℕ, List, Bool, Option}
 
--- whether a file is open, the names that `open` was handed, and how many calls failed
+-- whether a file is open, the bytes that its own reads will give, where its type tells them, the names that `open` was
+-- handed, and how many calls failed
 pub record DiskState : Type 0 where
   pub is_open : Bool
+  pub to_read : Option (List ℕ)
   pub names : Option (List (List ℕ))
+  pub faults : ℕ
+
+-- the bytes that the stream's own writes have put into it, where its type tells them, and how many calls failed
+pub record StreamState : Type 0 where
+  pub written : Option (List ℕ)
   pub faults : ℕ

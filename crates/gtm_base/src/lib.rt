@@ -6,27 +6,29 @@
 //! and the real forms of a disk and of the system's streams tell nothing of content.
 #![tactic(auto)]
 
+mod disk_files;
 mod handed;
 mod keyed;
 mod list;
 mod mem_files;
 mod mem_sink;
 mod memory;
+mod out_sink;
 mod outside;
 mod reading;
-mod real;
 mod status;
 mod text;
 mod writing;
 
+pub use disk_files::DiskFiles;
 pub use keyed::Keyed;
 pub use list::ListOf;
 pub use mem_files::MemFiles;
 pub use mem_sink::MemSink;
 pub use memory::OutOfMemory;
+pub use out_sink::{OutSink, Stream};
 pub use outside::{FileFailed, Files, Sink, SinkFailed};
 pub use reading::{ReadEnd, read_whole};
-pub use real::{DiskFiles, OutSink};
 pub use status::Status;
 pub use text::{Text, Texts};
 pub use writing::put;
