@@ -11,6 +11,7 @@ pub record LayerState : Type 0 where
   pub model : Tree
   pub version_one : Entries
 
+-- before the first message
 abbrev pub empty_layer : LayerState
 empty_layer = record { model = object none; version_one = none }
 

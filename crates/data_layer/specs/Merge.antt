@@ -42,10 +42,12 @@ unfoldable mutual
   merge foreign m = foreign
   merge (callback number) m = callback number
 
+  -- the items of the second List, with those of the first merged into them by index
   pub merge_items : Trees → Trees → Trees
   merge_items end ms = ms
   merge_items (item t ts) ms = on_items t (merge t) (merge_items ts) ms
 
+  -- the members of the second Map, with those of the first merged into them by key
   pub merge_members : Entries → Entries → Entries
   merge_members none ms = ms
   merge_members (entry key t es) ms = merge_members es (put key (merge t) t ms)

@@ -1,7 +1,8 @@
 -- Files and a sink in memory, as contracts see them.
-use Rattle.std.specs.Prelude.{ℕ, ◌+◌, ◌-◌, ◌^◌, ◌==◌, min, Bool, List, [], ◌∷◌, ◌++◌, length, drop, slice_get, Option, option_map, option_and_then}
+use Rattle.std.specs.Prelude.{ℕ, ◌==◌, Bool, List, [], ◌∷◌, ◌++◌, length, drop, slice_get, Option, option_map, option_and_then}
 use Rattle.std.specs.List.{list_any}
 use Rattle.std.specs.Option.{option_map_or}
+use Rattle.gtm_base.specs.Causes.{one_more}
 use Rattle.gtm_base.specs.Keys.{place_of, value_of, with_value}
 
 -- the bytes taken so far, the calls that are to fail, and how many calls there were and failed
@@ -33,10 +34,6 @@ left_in files = option_and_then (λ place. option_map (λ pair. drop files.done 
 -- the files with these bytes under this name: in place of what it held, or last
 abbrev pub with_file : List (List ℕ × List ℕ) → List ℕ → List ℕ → List (List ℕ × List ℕ)
 with_file files name bytes = option_map_or (λ at. with_value files at bytes) (place_of name files) (files ++ (name, bytes) ∷ [])
-
--- a count with one more, or the greatest number that it can tell
-abbrev pub one_more : ℕ → ℕ
-one_more count = min (count + 1) (2 ^ 64 - 1)
 
 -- whether the number is one of these
 abbrev pub is_among : List ℕ → ℕ → Bool

@@ -4,6 +4,7 @@ use Rattle.std.specs.Option.{ForSome}
 use Rattle.gtm_base.specs.Memory.{MemoryFiles}
 use Rattle.gtm_base.specs.declared.mem_files.MemFiles.TheInside.{Inside}
 
+-- the files in memory that the fields are
 abbrev pub memory_files : Inside → MemoryFiles
 memory_files files = record {
   held = files.files.pairs;

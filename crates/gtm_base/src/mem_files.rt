@@ -1,9 +1,9 @@
 ghost use Rattle.std.specs.Prelude.{◌≡◌, ◌≤◌, ◌<◌, ◌^◌, [], ◌++◌, ◌∷◌, length, take, drop, min, false, Some, None, IsTrue, IsSome, IsOk, IsErr, IfOk, OnOk, OnErr};
 ghost use Rattle.std.specs.Str.{chars};
 ghost use Rattle.std.specs.Prelude.{◌+◌, option_map, slice_get};
-ghost use Rattle.gtm_base.specs.Causes.{IsCounted};
+ghost use Rattle.gtm_base.specs.Causes.{IsCounted, one_more};
 ghost use Rattle.gtm_base.specs.Keys.{value_of, place_of};
-ghost use Rattle.gtm_base.specs.Memory.{with_file, name_in, left_in, one_more, is_among, left_count, faults_after_open};
+ghost use Rattle.gtm_base.specs.Memory.{with_file, name_in, left_in, is_among, left_count, faults_after_open};
 ghost use Rattle.gtm_base.specs.Outside.{AddsName, followed_by};
 
 use crate::handed::keep_name;

@@ -1,6 +1,6 @@
 ghost use Rattle.std.specs.Prelude.{◌≡◌, ◌++◌, ◌∷◌, [], length, IsTrue, IsErr, IfOk, OnOk, OnErr};
-ghost use Rattle.gtm_base.specs.Causes.{IsCounted};
-ghost use Rattle.gtm_base.specs.Memory.{one_more, is_among};
+ghost use Rattle.gtm_base.specs.Causes.{IsCounted, one_more};
+ghost use Rattle.gtm_base.specs.Memory.{is_among};
 
 use crate::{OutOfMemory, Sink, SinkFailed};
 use std::alloc::Global;

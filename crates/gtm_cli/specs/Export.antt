@@ -10,10 +10,12 @@ use Rattle.gtm_cli.specs.declared.export.Refusal.{Refusal}
 abbrev pub json_of : List ℕ → Option json.Data
 json_of bytes = if is_utf8 bytes then read bytes else None
 
+-- whether there is a number and it is this one
 abbrev pub is_number : ℕ → Option ℕ → Bool
 is_number n None = false
 is_number n (Some m) = n == m
 
+-- a list without items
 abbrev pub is_empty_list : json.Data → Bool
 is_empty_list (json.array json.no_items) = true
 is_empty_list _ = false
@@ -40,6 +42,7 @@ is_built export =
     is_number 2 (option_and_then as_u64 (option_and_then as_number (get (codes "exportFormatVersion") export)))
     && has_no_entries (get (codes "containerVersion") export)
 
+-- the refusal of a JSON tree, or of a text that has none
 abbrev pub refused_tree : Option json.Data → Option Refusal
 refused_tree None = Some (record { rule = 2; path = [] })
 refused_tree (Some export) = if is_built export then None else Some (record { rule = 29; path = [] })

@@ -22,6 +22,7 @@ status_of (Err (TraceRefused bad)) = status.TraceRefused bad.line bad.rule
 status_of (Err Unwritten) = status.SinkFault
 status_of (Err OutOfMemory) = status.OutOfMemory
 
+-- the status of a run: its export's refusal, else its trace's, else done
 abbrev pub status_unless : Option Refusal → Option BadLine → Status
 status_unless (Some refusal) bad = status.ExportRefused refusal.rule refusal.path
 status_unless None (Some bad) = status.TraceRefused bad.line bad.rule
@@ -31,6 +32,7 @@ status_unless None None = status.Done
 abbrev pub model_status : List ℕ → List ℕ → Status
 model_status export trace = status_unless (first_broken export) (trace_of trace).refusal
 
+-- the text, where the export is not refused
 abbrev pub text_unless : Option Refusal → List ℕ → List ℕ
 text_unless (Some refusal) text = []
 text_unless None text = text
@@ -45,12 +47,13 @@ pub record IsModels (export trace : List ℕ) (answer : Status) (old new : Optio
   pub status : answer ≡ model_status export trace
   pub text : new ≡ and_then old (model_text export trace)
 
--- the files tell that they lack the export, or the trace where they hold an export that is accepted
+-- the files tell that this name holds an export that is accepted
 pub record AcceptsExport (held : Option Holdings) (name : List ℕ) : Type 0 where
   pub bytes : List ℕ
   pub holds : Holds held name bytes
   pub accepted : first_broken bytes ≡ None
 
+-- the files tell that they lack the export, or the trace where they hold an export that is accepted
 abbrev pub LacksOne : Option Holdings → Names → Type 0
 LacksOne held names = Lacks held names.export ⊎ (AcceptsExport held names.export × Lacks held names.trace)
 

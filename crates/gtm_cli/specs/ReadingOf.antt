@@ -6,9 +6,11 @@ use Rattle.gtm_cli.specs.declared.steps.LineRead.TheVariants.{Blank, Step as Ste
 use Rattle.gtm_cli.specs.declared.steps.TraceStep.{TraceStep}
 use Rattle.gtm_cli.specs.declared.steps.TraceStep.TheVariants.{Push}
 
+-- the step that a value of the program is
 abbrev pub step_of : TraceStep → Step
 step_of (Push value) = push (tree_of value)
 
+-- what a line says, from what the program read of it
 abbrev pub reading_of : LineRead → Reading
 reading_of Blank = blank
 reading_of (Stepped s) = step (step_of s)

@@ -8,21 +8,27 @@ use Rattle.gtm_cli.specs.declared.failure.Failure.{Failure}
 use Rattle.gtm_cli.specs.declared.failure.Failure.TheVariants as failure
 use Rattle.gtm_cli.specs.Words.{Names}
 
+-- how the program is used
 unfoldable pub usage_text : List ℕ
 usage_text = codes "usage: gtm_replay run EXPORT TRACE | gtm_replay self N"
 
+-- that the run could not be written
 unfoldable pub unwritten_text : List ℕ
 unwritten_text = codes "gtm_replay: cannot write"
 
+-- that memory was wanting
 unfoldable pub memory_text : List ℕ
 memory_text = codes "gtm_replay: out of memory"
 
+-- that a file could not be opened or read
 abbrev pub unread_text : List ℕ → List ℕ
 unread_text name = codes "gtm_replay: cannot read " ++ quoted name
 
+-- the rule that an export breaks, and its place
 abbrev pub refusal_text : ℕ → List ℕ → List ℕ
 refusal_text rule path = codes "gtm_replay: export: rule " ++ decimal rule ++ codes " at " ++ quoted path
 
+-- the first bad line of a trace, and its rule
 abbrev pub bad_line_text : ℕ → ℕ → List ℕ
 bad_line_text line rule = codes "gtm_replay: trace: line " ++ decimal line ++ codes " rule " ++ decimal rule
 

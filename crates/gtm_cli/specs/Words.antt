@@ -8,6 +8,7 @@ pub record Names : Type 0 where
   pub export : List ℕ
   pub trace : List ℕ
 
+-- the characters of a word
 abbrev pub name_of : String Global → List ℕ
 name_of word = chars (string_bytes word)
 

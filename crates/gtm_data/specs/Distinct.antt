@@ -21,10 +21,12 @@ abbrev mutual
   Distinct foreign = Unit {0}
   Distinct (callback number) = Unit {0}
 
+  -- the same of each item
   pub DistinctItems : Trees → Type 0
   DistinctItems end = Unit {0}
   DistinctItems (item t ts) = Distinct t × DistinctItems ts
 
+  -- no two members have the same key, and the same of each value
   pub DistinctEntries : Entries → Type 0
   DistinctEntries none = Unit {0}
   DistinctEntries (entry key t es) = (has_member key es ≡ false) × Distinct t × DistinctEntries es

@@ -44,10 +44,12 @@ unfoldable mutual
   json_text foreign = codes "function"
   json_text (callback number) = codes "function"
 
+  -- the items as JSON
   pub item_texts : Trees → List (List ℕ)
   item_texts end = []
   item_texts (item t ts) = json_text t ∷ item_texts ts
 
+  -- the members as JSON, each its key in quotes, a colon and its value
   pub member_texts : Entries → List (List ℕ)
   member_texts none = []
   member_texts (entry key t es) = (quoted key ++ 58 ∷ json_text t) ∷ member_texts es

@@ -24,10 +24,12 @@ unfoldable mutual
   tree_in (json.array ds) = list (trees_in ds)
   tree_in (json.object ms) = object (entries_in ms)
 
+  -- the same of the items of a List
   pub trees_in : json.Items → Trees
   trees_in json.no_items = end
   trees_in (json.item d ds) = item (tree_in d) (trees_in ds)
 
+  -- the same of the members of a Map
   pub entries_in : json.Members → Entries
   entries_in json.no_members = none
   entries_in (json.member key d ms) = entry (chars key) (tree_in d) (entries_in ms)

@@ -18,6 +18,7 @@ unfoldable mutual
   text_of foreign = codes "[function]"
   text_of (callback number) = codes "[function]"
 
+  -- the items as texts
   pub texts_of : Trees → List (List ℕ)
   texts_of end = []
   texts_of (item t ts) = text_of t ∷ texts_of ts

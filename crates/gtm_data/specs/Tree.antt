@@ -74,10 +74,12 @@ unfoldable mutual
   depth foreign = 0
   depth (callback number) = 0
 
+  -- the greatest depth of the items
   pub items_depth : Trees → ℕ
   items_depth end = 0
   items_depth (item t ts) = max (depth t) (items_depth ts)
 
+  -- the greatest depth of the values
   pub members_depth : Entries → ℕ
   members_depth none = 0
   members_depth (entry key t es) = max (depth t) (members_depth es)

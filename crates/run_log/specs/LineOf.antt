@@ -4,6 +4,7 @@ use Rattle.run_log.specs.Lines.{LogLine, message, event, model, finish}
 use Rattle.run_log.specs.declared.line.Line.{Line}
 use Rattle.run_log.specs.declared.line.Line.TheVariants.{Message, Event, Model, End}
 
+-- the line of the log that a value of the program is
 abbrev pub line_of : Line → LogLine
 line_of (Message value ignored) = message (tree_of value) ignored
 line_of (Event number name) = event number name

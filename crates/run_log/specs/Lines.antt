@@ -14,6 +14,7 @@ pub record Counts : Type 0 where
   pub denied : ℕ
   pub faults : ℕ
 
+-- a line of the log
 pub data LogLine : Type 0 where
   -- a message, and whether it was ignored
   message : Tree → Bool → LogLine
