@@ -4,11 +4,14 @@
 //! same key. `Files` and `Sink` say what a call read, took and opened, where this is told, and that a call fails only with a
 //! rise of its count; `put` and `read_whole` hand that on for a whole piece and a whole file. The forms in memory tell all,
 //! and the real forms of a disk and of the system's streams tell nothing of content.
+//!
+//! A law, `keys_lead_to_their_pairs`, says of whole lists of pairs what the lookups by key mean.
 #![tactic(auto)]
 
 mod disk_files;
 mod handed;
 mod keyed;
+mod laws;
 mod list;
 mod mem_files;
 mod mem_sink;
@@ -22,6 +25,7 @@ mod writing;
 
 pub use disk_files::DiskFiles;
 pub use keyed::Keyed;
+pub use laws::keys_lead_to_their_pairs;
 pub use list::ListOf;
 pub use mem_files::MemFiles;
 pub use mem_sink::MemSink;
