@@ -1,5 +1,5 @@
 -- Where no two pairs have the same key, a key leads to its pair alone.
-use Rattle.std.proofs.Common.{◌≡◌, ◌↔◌, ℕ, zero, suc, List, [], ◌∷◌, Bool, true, false, not, ◌||◌, IsTrue, true≢false, refl, sym, ap, ◌∙◌, slice_get}
+use Rattle.std.proofs.Common.{◌≡◌, ◌↔◌, ℕ, zero, suc, List, [], ◌∷◌, Bool, true, false, not, ◌&&◌, ◌||◌, IsTrue, true≢false, refl, sym, ap, ◌∙◌, slice_get, arith}
 use Rattle.std.specs.Prelude.{Option, Some, None, option_map, if◌then◌else◌}
 use Rattle.std.specs.Str.{bytes_eq}
 use Rattle.std.proofs.lemmas.Slice.Eq.{bytes_eq-Decides}
@@ -87,3 +87,42 @@ module _ {A : Type 0} (key : List ℕ) where
   pub absent_has_no_value : (pairs : List (List ℕ × A)) → (has_key key pairs ≡ false) ↔ (value_of key pairs ≡ None)
   absent_has_no_value [] = ((λ _. refl), (λ _. refl))
   absent_has_no_value (pair ∷ pairs) = absent_value (bytes_eq pair.0 key) pair.1 pairs (absent_has_no_value pairs)
+
+-- a key that some pair has stands at some place
+key_paired_at : {A : Type 0} (test : Bool) (key : List ℕ) (pair : List ℕ × A) (pairs : List (List ℕ × A)) → bytes_eq pair.0 key ≡ test
+    → (has_key key pairs ≡ true → (at : ℕ) × (value : A) × (slice_get pairs at ≡ Some (key, value))) → (test || has_key key pairs) ≡ true
+    → (at : ℕ) × (value : A) × (slice_get (pair ∷ pairs) at ≡ Some (key, value))
+key_paired_at true key pair pairs is later has = (0, pair.1, ap (λ k. Some (k, pair.1)) ((bytes_eq-Decides pair.0 key).0 is))
+key_paired_at false key pair pairs is later has = let found = later has in (suc found.0, found.1, found.2)
+
+pub key_paired : {A : Type 0} (key : List ℕ) (pairs : List (List ℕ × A)) → has_key key pairs ≡ true → (at : ℕ) × (value : A) × (slice_get pairs at ≡ Some (key, value))
+key_paired key [] has = absurd (true≢false (sym has))
+key_paired key (pair ∷ pairs) has = key_paired_at (bytes_eq pair.0 key) key pair pairs refl (key_paired key pairs) has
+
+-- no two places have the same key
+abbrev pub Alone : {A : Type 0} → List (List ℕ × A) → Type 0
+Alone {A} pairs = (at other : ℕ) (key : List ℕ) (value another : A) → slice_get pairs at ≡ Some (key, value) → slice_get pairs other ≡ Some (key, another) → at ≡ other
+
+first_alone : {A : Type 0} (test : Bool) (pair : List ℕ × A) (pairs : List (List ℕ × A)) → Alone (pair ∷ pairs) → has_key pair.0 pairs ≡ test → test ≡ false
+first_alone true pair pairs alone has =
+    let found = key_paired pair.0 pairs has in
+    let same : 0 ≡ suc found.0 = alone 0 (suc found.0) pair.0 pair.1 found.1 refl found.2 in
+    absurd (omega arith)
+first_alone false pair pairs alone has = refl
+
+later_alone : {A : Type 0} (pair : List ℕ × A) (pairs : List (List ℕ × A)) → Alone (pair ∷ pairs) → Alone pairs
+later_alone pair pairs alone at other key value another here there = let same : suc at ≡ suc other = alone (suc at) (suc other) key value another here there in omega arith
+
+distinct_if_alone : {A : Type 0} (pairs : List (List ℕ × A)) → Alone pairs → distinct_keys pairs ≡ true
+distinct_if_alone [] alone = refl
+distinct_if_alone (pair ∷ pairs) alone = λ i. not (first_alone (has_key pair.0 pairs) pair pairs alone refl i) && distinct_if_alone pairs (later_alone pair pairs alone) i
+
+alone_if_distinct : {A : Type 0} (pairs : List (List ℕ × A)) → distinct_keys pairs ≡ true → Alone pairs
+alone_if_distinct pairs distinct at other key value another here there = some_same (sym (place_of-at key pairs at value distinct here) ∙ place_of-at key pairs other another distinct there)
+
+pub distinct_is_alone : {A : Type 0} (pairs : List (List ℕ × A)) → IsTrue (distinct_keys pairs) ↔ Alone pairs
+distinct_is_alone pairs = (alone_if_distinct pairs, distinct_if_alone pairs)
+
+-- exactly a key that some pair has stands at some place
+pub has_key_is_paired : {A : Type 0} (key : List ℕ) (pairs : List (List ℕ × A)) → IsTrue (has_key key pairs) ↔ ((at : ℕ) × (value : A) × (slice_get pairs at ≡ Some (key, value)))
+has_key_is_paired key pairs = (key_paired key pairs, (λ found. has_key-at key pairs found.0 found.1 found.2))
