@@ -1,0 +1,99 @@
+-- What holds of a container that was read.
+use Rattle.std.specs.Prelude.{◌≡◌, ◌<◌, ◌^◌, ℕ, zero, suc, length, true, false, All, Contains, IfSome, slice_get, IsSomeAnd}
+use Rattle.export_model.specs.declared.container.Container.{Container}
+use Rattle.export_model.specs.declared.params.NameRef.{NameRef}
+use Rattle.export_model.specs.declared.params.NameRef.TheVariants.{Variable, BuiltIn, EventName, Nothing}
+use Rattle.export_model.specs.declared.tags.Tag.{Tag}
+use Rattle.export_model.specs.declared.tags.TagKind.{TagKind}
+use Rattle.export_model.specs.declared.tags.TagKind.TheVariants as tag_kind
+use Rattle.export_model.specs.declared.tags.Sequence.{Sequence}
+use Rattle.export_model.specs.declared.triggers.Trigger.{Trigger}
+use Rattle.export_model.specs.declared.triggers.TriggerRef.{TriggerRef}
+use Rattle.export_model.specs.declared.triggers.TriggerRef.TheVariants.{Own, AllPages, Init, ConsentInit, Never}
+use Rattle.export_model.specs.declared.variables.Variable.{Variable as VariableEntry}
+use Rattle.export_model.specs.declared.variables.VariableKind.{VariableKind}
+use Rattle.export_model.specs.declared.variables.VariableKind.TheVariants as variable_kind
+use Rattle.export_model.specs.Names.{names_of_tag, names_of_trigger, names_of_variable}
+
+-- a name stands for a variable or a built-in variable that is there, or for none
+abbrev pub IsNameIn : Container → NameRef → Type 0
+IsNameIn c (Variable at) = at < length c.variables
+IsNameIn c (BuiltIn at) = at < length c.built_ins
+IsNameIn c EventName = Unit {0}
+IsNameIn c Nothing = Unit {0}
+
+-- a trigger's number stands for a trigger that is there, or for a built-in one
+abbrev pub IsTriggerIn : Container → TriggerRef → Type 0
+IsTriggerIn c (Own at) = at < length c.triggers
+IsTriggerIn c AllPages = Unit {0}
+IsTriggerIn c Init = Unit {0}
+IsTriggerIn c ConsentInit = Unit {0}
+IsTriggerIn c Never = Unit {0}
+
+-- a setup or teardown tag is there
+abbrev pub IsSequenceIn : Container → Sequence → Type 0
+IsSequenceIn c sequence = sequence.tag < length c.tags
+
+-- a tag's template is there, and is one of tags
+abbrev pub IsTagKindIn : Container → TagKind → Type 0
+IsTagKindIn c (tag_kind.Template at) = IsSomeAnd (slice_get c.templates at) (λ template. template.is_tag ≡ true)
+IsTagKindIn c (tag_kind.Opaque word) = Unit {0}
+
+-- a variable's template is there, and is none of tags
+abbrev pub IsVariableKindIn : Container → VariableKind → Type 0
+IsVariableKindIn c (variable_kind.Template at) = IsSomeAnd (slice_get c.templates at) (λ template. template.is_tag ≡ false)
+IsVariableKindIn c _ = Unit {0}
+
+-- what a tag names is there
+pub record IsTagIn (c : Container) (tag : Tag) : Type 0 where
+  pub kind : IsTagKindIn c tag.kind
+  pub names : All (IsNameIn c) (names_of_tag tag)
+  pub firing : All (IsTriggerIn c) tag.firing
+  pub blocking : All (IsTriggerIn c) tag.blocking
+  pub setup : IfSome tag.setup (IsSequenceIn c)
+  pub teardown : IfSome tag.teardown (IsSequenceIn c)
+
+-- what a trigger names is there
+pub record IsTriggerEntryIn (c : Container) (trigger : Trigger) : Type 0 where
+  pub names : All (IsNameIn c) (names_of_trigger trigger)
+  pub members : All (IsTriggerIn c) trigger.members
+
+-- what a variable names is there
+pub record IsVariableIn (c : Container) (variable : VariableEntry) : Type 0 where
+  pub kind : IsVariableKindIn c variable.kind
+  pub names : All (IsNameIn c) (names_of_variable variable)
+
+-- a chain of so many steps leads from one place to another
+abbrev pub Chain : (ℕ → ℕ → Type 0) → ℕ → ℕ → ℕ → Type 0
+Chain refers zero from until = from ≡ until
+Chain refers (suc steps) from until = (next : ℕ) × refers from next × Chain refers steps next until
+
+-- nothing leads back to itself
+abbrev pub HasNoCycle : (ℕ → ℕ → Type 0) → Type 0
+HasNoCycle refers = (steps place : ℕ) → Chain refers (suc steps) place place → ⊥
+
+-- a variable refers to another one in its parameters or its format
+abbrev pub VariableRefers : Container → ℕ → ℕ → Type 0
+VariableRefers c from to = IsSomeAnd (slice_get c.variables from) (λ variable. Contains (names_of_variable variable) (Variable to))
+
+-- a trigger has another one as a member of its group
+abbrev pub GroupRefers : Container → ℕ → ℕ → Type 0
+GroupRefers c from to = IsSomeAnd (slice_get c.triggers from) (λ trigger. Contains trigger.members (Own to))
+
+-- each list has fewer than 2^32 entries
+pub record HasSmallLists (c : Container) : Type 0 where
+  pub tags : length c.tags < 2 ^ 32
+  pub triggers : length c.triggers < 2 ^ 32
+  pub variables : length c.variables < 2 ^ 32
+  pub built_ins : length c.built_ins < 2 ^ 32
+  pub templates : length c.templates < 2 ^ 32
+
+-- every number is below the length of the list that it names, templates are used as what they are, and nothing refers to
+-- itself
+pub record Sound (c : Container) : Type 0 where
+  pub small : HasSmallLists c
+  pub tags : All (IsTagIn c) c.tags
+  pub triggers : All (IsTriggerEntryIn c) c.triggers
+  pub variables : All (IsVariableIn c) c.variables
+  pub no_variable_cycle : HasNoCycle (VariableRefers c)
+  pub no_group_cycle : HasNoCycle (GroupRefers c)
