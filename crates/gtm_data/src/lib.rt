@@ -24,7 +24,7 @@ pub use laws::{
     data_is_plain_exactly_where_it_is_shallow, dotted_texts_are_their_parts, get_goes_by_steps,
     keys_are_distinct,
 };
-pub use numbers::whole_text;
+pub use numbers::{whole_of, whole_text};
 pub use printing::{json_text, write_json, write_quoted};
 pub use reading::{DataEnd, from_json};
 pub use texts::text_of;

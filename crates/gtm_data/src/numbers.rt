@@ -18,8 +18,8 @@ fn in_range(number: i64) -> Option<i64>
     }
 }
 
-/// The number of a JSON tree, where it is whole and in range.
-pub(crate) fn whole_of(number: &Number) -> Option<i64>
+/// The number of a JSON tree, where it is written whole and lies from -9007199254740991 to 9007199254740991; else `None`.
+pub fn whole_of(number: &Number) -> Option<i64>
     ensures { result ≡ whole_of (number_view number.now) }
 {
     match number.as_i64() {
