@@ -1,12 +1,13 @@
 -- Parameters, which nest.
-use Rattle.std.specs.Prelude.{◌+◌, ℕ, List, [], ◌∷◌, Option, Some, None, option_map, codes}
+use Rattle.std.specs.Prelude.{◌≡◌, ◌+◌, ℕ, List, [], ◌∷◌, Option, Some, None, option_map, codes}
 use Rattle.std.specs.Option.{option_map_or}
 use Rattle.std.specs.Ordering.{nat_cmp, match_ordering}
 use Rattle.std.specs.Cmp.Lexicographic.{slice_cmp}
 use Rattle.serde_json.specs.Data.{Data, null, boolean, number, string, array, object, Items, no_items, item, Members, no_members, member}
 use Rattle.serde_json.specs.Find.{get}
 use Rattle.export_fields.specs.Fault.{in_key, in_index, ◌then◌}
-use Rattle.export_fields.specs.Fields.{optional, text_fault, text_at}
+use Rattle.export_fields.specs.Fields.{not_object, optional, text_fault, text_at}
+use Rattle.export_fields.specs.ListOf.{list_fault, list_at}
 use Rattle.export_fields.specs.Words.{among, word_fault, word_at}
 use Rattle.export_fields.specs.declared.params.ParamKind.{ParamKind}
 use Rattle.export_fields.specs.declared.params.ParamKind.TheVariants.{Template, Integer, Boolean, List as Listed, Map as Mapped, TriggerReference, TagReference}
@@ -105,10 +106,15 @@ unfoldable mutual
   member_params_fault key no_members = None
   member_params_fault key (member k d ms) = match_ordering (slice_cmp nat_cmp key k) (member_params_fault key ms) (option_map (in_key key) (not_params d)) (member_params_fault key ms)
 
--- the first fault of the parameters at a key
-unfoldable pub params_fault : List ℕ → Data → Option (List ℕ)
-params_fault = optional not_params
+-- the first fault of the parameters at a key of a parameter
+unfoldable pub nested_fault : List ℕ → Data → Option (List ℕ)
+nested_fault = optional not_params
 
--- the parameters at a key, or none
-unfoldable pub params_at : List ℕ → Data → List WrittenParam
-params_at key d = option_map_or as_params (get key d) []
+-- the parameters at a key of a parameter, or none
+unfoldable pub nested_at : List ℕ → Data → List WrittenParam
+nested_at key d = option_map_or as_params (get key d) []
+
+-- a parameter is read by its fields: its list and its map are lists of parameters, read alike
+pub record IsReadByFields (d : Data) : Type 0 where
+  pub fault : not_param d ≡ (not_object d then param_fault_with d (list_fault not_param (codes "list") d) (list_fault not_param (codes "map") d))
+  pub value : as_param d ≡ param_with d (list_at as_param (codes "list") d) (list_at as_param (codes "map") d)

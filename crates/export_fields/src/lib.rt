@@ -19,5 +19,7 @@ pub use fields::{flag, object, required_text, text};
 pub use lists::{Entry, list_of, texts};
 pub use numbers::whole_at;
 pub use objects::{object_at, single_at};
-pub use params::{ParamKind, WrittenParam, WrittenParams, param_at, params_at};
+pub use params::{
+    ParamKind, WrittenParam, WrittenParams, param_at, parameters_are_read_by_fields, params_at,
+};
 pub use words::{WordList, folded, word};

@@ -1,12 +1,14 @@
 ghost use Rattle.std.specs.Prelude.{◌≡◌, ◌++◌, codes, option_map};
+ghost use Rattle.serde_json.specs.Data.{Data};
 ghost use Rattle.serde_json.specs.View.{view, items_view};
 ghost use Rattle.export_fields.specs.Fault.{Reads, Fails};
+ghost use Rattle.export_fields.specs.ListOf.{list_fault, list_at};
 ghost use Rattle.export_fields.specs.Objects.{object_fault, object_at};
-ghost use Rattle.export_fields.specs.Params.{not_param, as_param, not_params, as_params, item_params_fault, item_params, params_fault, params_at};
+ghost use Rattle.export_fields.specs.Params.{not_param, as_param, not_params, as_params, item_params_fault, item_params, nested_fault, nested_at, IsReadByFields};
 
 use crate::fault::{ReadEnd, broken_here, in_index, in_key};
 use crate::fields::{object, text};
-use crate::lists::Entry;
+use crate::lists::{Entry, list_of};
 use crate::objects::object_at;
 use crate::words::{WordList, word};
 use gtm_base::{ListOf, Text};
@@ -92,8 +94,8 @@ fn as_param(alloc: Global, value: &Value) -> Result<WrittenParam, ReadEnd>
     let kind = word(alloc, value, "type")?;
     let key = text(alloc, value, "key")?;
     let text = text(alloc, value, "value")?;
-    let list = params_at(alloc, value, "list")?;
-    let map = params_at(alloc, value, "map")?;
+    let list = nested_at(alloc, value, "list")?;
+    let map = nested_at(alloc, value, "map")?;
     Ok(WrittenParam {
         kind,
         key,
@@ -103,11 +105,11 @@ fn as_param(alloc: Global, value: &Value) -> Result<WrittenParam, ReadEnd>
     })
 }
 
-/// The parameters of the list at the key, with those inside them, or the empty list where there is none. Of each parameter the fields are read in the order of `WrittenParam`, and the first fault is told. A value that is no list is a fault at the field, and a parameter that is no object is one at itself.
+// The parameters at a key of a parameter.
 #[cycle(params)]
-#[tactic(auto, unfolding(crate::specs::Params::params_fault, crate::specs::Params::params_at))]
-pub fn params_at(alloc: Global, object: &Value, key: &str) -> Result<WrittenParams, ReadEnd>
-    ensures { Reads result (params_fault key.now (view object.now)) (params_at key.now (view object.now)) }
+#[tactic(auto, unfolding(crate::specs::Params::nested_fault, crate::specs::Params::nested_at))]
+fn nested_at(alloc: Global, object: &Value, key: &str) -> Result<WrittenParams, ReadEnd>
+    ensures { Reads result (nested_fault key.now (view object.now)) (nested_at key.now (view object.now)) }
 {
     match object.get(key) {
         Some(value) => match as_params(alloc, value) {
@@ -144,9 +146,21 @@ fn item_params(alloc: Global, items: &Vec<Value>) -> Result<WrittenParams, ReadE
     Ok(made)
 }
 
+/// The parameters of the list at the key, with those inside them, or the empty list where there is none. Of each parameter the fields are read in the order of `WrittenParam`, and the first fault is told. A value that is no list is a fault at the field, and a parameter that is no object is one at itself.
+pub fn params_at(alloc: Global, object: &Value, key: &str) -> Result<WrittenParams, ReadEnd>
+    ensures { Reads result (list_fault not_param key.now (view object.now)) (list_at as_param key.now (view object.now)) }
+{
+    list_of(alloc, object, key)
+}
+
 /// The parameter at the key, with those inside it, or `None` where there is none. Its fault has the key in its path.
 pub fn param_at(alloc: Global, object: &Value, key: &str) -> Result<Option<WrittenParam>, ReadEnd>
     ensures { Reads result (object_fault not_param key.now (view object.now)) (object_at as_param key.now (view object.now)) }
 {
     object_at(alloc, object, key)
 }
+
+/// A law, with nothing to call: the fault of a parameter is that of no object, or else the first of its fields, and its list and its map are lists of parameters that are read alike.
+pub fn parameters_are_read_by_fields()
+    ensures { (value : Data) → IsReadByFields value }
+{}

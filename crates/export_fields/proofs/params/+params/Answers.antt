@@ -4,8 +4,8 @@ use Rattle.serde_json.specs.View.{view, items_view}
 use Rattle.export_fields.proofs.Depths.{get_depth, item_depth}
 use Rattle.export_fields.proofs.params.+params.Goals as goal
 
-pub params_at-as_params-requires : goal.params_at-as_params-requires
-params_at-as_params-requires t c =
+pub nested_at-as_params-requires : goal.nested_at-as_params-requires
+nested_at-as_params-requires t c =
     let less : depth (view c.in-Some.value.now) ≤ depth (view c.args.object.now) = get_depth c.args.key.now (view c.args.object.now) (view c.in-Some.value.now) c.in-Some.ensures in
     (omega arith, tt)
 

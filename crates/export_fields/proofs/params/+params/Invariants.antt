@@ -7,8 +7,8 @@ use Rattle.export_fields.proofs.params.+params.Given as goal
 abbrev pub decreases-as_param : goal.decreases-as_param
 decreases-as_param l = 4 * depth (view l.value.now) + 3
 
-abbrev pub decreases-params_at : goal.decreases-params_at
-decreases-params_at l = 4 * depth (view l.object.now) + 2
+abbrev pub decreases-nested_at : goal.decreases-nested_at
+decreases-nested_at l = 4 * depth (view l.object.now) + 2
 
 abbrev pub decreases-as_params : goal.decreases-as_params
 decreases-as_params l = 4 * depth (view l.value.now) + 1
