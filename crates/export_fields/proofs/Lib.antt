@@ -1,3 +1,4 @@
 pub mod Depths
+pub mod FirstFaults
 pub mod Nested
 pub mod Only

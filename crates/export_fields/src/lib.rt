@@ -8,6 +8,7 @@
 
 mod fault;
 mod fields;
+mod laws;
 mod lists;
 mod numbers;
 mod objects;
@@ -16,10 +17,9 @@ mod words;
 
 pub use fault::{ReadEnd, broken_at, broken_here, in_index, in_key, index_before, key_before};
 pub use fields::{flag, object, required_text, text};
+pub use laws::{parameters_are_read_by_fields, the_first_item_with_a_fault_tells_it};
 pub use lists::{Entry, list_of, texts};
 pub use numbers::whole_at;
 pub use objects::{object_at, single_at};
-pub use params::{
-    ParamKind, WrittenParam, WrittenParams, param_at, parameters_are_read_by_fields, params_at,
-};
+pub use params::{ParamKind, WrittenParam, WrittenParams, param_at, params_at};
 pub use words::{WordList, folded, word};

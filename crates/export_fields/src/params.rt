@@ -1,10 +1,9 @@
 ghost use Rattle.std.specs.Prelude.{◌≡◌, ◌++◌, codes, option_map};
-ghost use Rattle.serde_json.specs.Data.{Data};
 ghost use Rattle.serde_json.specs.View.{view, items_view};
 ghost use Rattle.export_fields.specs.Fault.{Reads, Fails};
 ghost use Rattle.export_fields.specs.ListOf.{list_fault, list_at};
 ghost use Rattle.export_fields.specs.Objects.{object_fault, object_at};
-ghost use Rattle.export_fields.specs.Params.{not_param, as_param, not_params, as_params, item_params_fault, item_params, nested_fault, nested_at, IsReadByFields};
+ghost use Rattle.export_fields.specs.Params.{not_param, as_param, not_params, as_params, item_params_fault, item_params, nested_fault, nested_at};
 
 use crate::fault::{ReadEnd, broken_here, in_index, in_key};
 use crate::fields::{object, text};
@@ -61,7 +60,7 @@ impl WordList for ParamKind {
 }
 
 /// A parameter as it is written: an absent kind is `Template`, an absent text is empty, and so is an absent list.
-#[derive(Drop)]
+#[derive(Debug, Drop)]
 pub struct WrittenParam {
     pub kind: ParamKind,
     pub key: Text,
@@ -159,8 +158,3 @@ pub fn param_at(alloc: Global, object: &Value, key: &str) -> Result<Option<Writt
 {
     object_at(alloc, object, key)
 }
-
-/// A law, with nothing to call: the fault of a parameter is that of no object, or else the first of its fields, and its list and its map are lists of parameters that are read alike.
-pub fn parameters_are_read_by_fields()
-    ensures { (value : Data) → IsReadByFields value }
-{}
