@@ -24,9 +24,10 @@ pub fn object(alloc: Global, value: &Value) -> Result<(), ReadEnd>
 pub(crate) fn as_text(alloc: Global, value: &Value) -> Result<Text, ReadEnd>
     ensures { Reads result (not_text (view value.now)) (as_text (view value.now)) }
 {
-    match value.as_str() {
-        Some(text) => Ok(Text::from_str(alloc, text)?),
-        None => Err(broken_here(alloc)),
+    if let Some(text) = value.as_str() {
+        Ok(Text::from_str(alloc, text)?)
+    } else {
+        Err(broken_here(alloc))
     }
 }
 
