@@ -1,4 +1,7 @@
-use crate::{NONE, run_over, run_words};
+use crate::{NONE, run_over};
+use gtm_base::{MemFiles, MemSink, OutOfMemory};
+use gtm_cli::replay;
+use std::alloc::Global;
 use std::test::Fail;
 
 const EXPORT: &[u8] = b"{\"exportFormatVersion\":2,\"containerVersion\":{}}";
@@ -303,12 +306,25 @@ const WORDS: &[WordsRow] = &[
 #[test]
 fn commands(rt: HostRuntime) -> Result<(), Fail> {
     for row in WORDS {
-        let ran = run_words(rt.alloc(), row.words, EXPORT, NONE)?;
-        assert_eq!(rt; ran.status.code(), row.status);
-        assert_eq!(rt; ran.err.bytes(), row.err);
-        assert!(rt; ran.out.bytes().is_empty());
+        let words = owned(rt.alloc(), row.words)?;
+        let mut files = MemFiles::new(rt.alloc());
+        files.add("e.json", EXPORT)?;
+        let mut out = MemSink::new(rt.alloc());
+        let mut err = MemSink::new(rt.alloc());
+        let status = replay(rt.alloc(), words.as_slice(), &mut files, &mut out, &mut err);
+        assert_eq!(rt; status.code(), row.status);
+        assert_eq!(rt; err.bytes(), row.err);
+        assert!(rt; out.bytes().is_empty());
     }
     Ok(())
+}
+
+fn owned(alloc: Global, words: &[&str]) -> Result<Vec<String>, OutOfMemory> {
+    let mut made = Vec::new(alloc);
+    for word in words {
+        made.push(String::from_str(alloc, word)?)?;
+    }
+    Ok(made)
 }
 
 // The longest line is read, and one byte more is too much.

@@ -1,13 +1,19 @@
-ghost use Rattle.std.specs.Prelude.{◌≡◌};
+ghost use Rattle.std.specs.Prelude.{◌≡◌, ◌<◌, ◌⊎◌, ◌∷◌, [], Some, IfOk};
+ghost use Rattle.gtm_base.specs.Outside.{TookFront};
+ghost use Rattle.gtm_base.specs.declared.status.Status.TheVariants as status;
+ghost use Rattle.gtm_cli.specs.Outcome.{IsModels, Handed, model_text};
+ghost use Rattle.gtm_cli.specs.Report.{Reports};
+ghost use Rattle.gtm_rows.specs.Held.{HoldsBoth, export_name, trace_name};
 
 use gtm_base::{MemFiles, MemSink, OutOfMemory, Status};
 use gtm_cli::replay;
 use std::alloc::Global;
 
-/// How a run ended, and what it wrote.
+/// How a run ended, and the files and sinks behind it.
 #[derive(Drop)]
 pub struct Ran {
     pub status: Status,
+    pub files: MemFiles,
     pub out: MemSink,
     pub err: MemSink,
 }
@@ -27,54 +33,52 @@ pub const NONE: Failing = Failing {
     err: 0,
 };
 
-/// Runs the words `run e.json t.jsonl` over files of these bytes.
+/// Runs the words `run e.json t.jsonl` where these bytes are the export and the trace.
+///
+/// Where no call of the files and of `out` failed, the status and what `out` took are the model's, or memory was wanting.
+/// An error comes only where memory is wanting for the files, the sinks or the words.
 pub fn run_over(
     alloc: Global,
     export: &[u8],
     trace: &[u8],
     failing: Failing,
-) -> Result<Ran, OutOfMemory> {
-    let mut files = MemFiles::new(alloc);
-    files.add("e.json", export)?;
-    files.add("t.jsonl", trace)?;
-    run_in(alloc, &["run", "e.json", "t.jsonl"], files, failing)
-}
-
-/// Runs these words where the one file `e.json` is.
-pub fn run_words(
-    alloc: Global,
-    words: &[&str],
-    export: &[u8],
-    failing: Failing,
-) -> Result<Ran, OutOfMemory> {
-    let mut files = MemFiles::new(alloc);
-    files.add("e.json", export)?;
-    run_in(alloc, words, files, failing)
-}
-
-fn run_in(
-    alloc: Global,
-    words: &[&str],
-    files: MemFiles,
-    failing: Failing,
 ) -> Result<Ran, OutOfMemory>
-    requires { files.faults ≡ 0 }
+    ensures model { IfOk result (λ ran. ran.files.faults ≡ 0 → ran.out.faults ≡ 0
+        → (ran.status ≡ status.OutOfMemory) ⊎ IsModels export.now trace.now ran.status (Some []) (Some ran.out.bytes)) }
+    ensures front { IfOk result (λ ran. TookFront (Some []) (Some ran.out.bytes) (model_text export.now trace.now)) }
+    ensures command { IfOk result (λ ran. ran.status ≡ status.Usage → ⊥) }
+    ensures unwritten { IfOk result (λ ran. ran.status ≡ status.SinkFault → 0 < ran.out.faults) }
+    ensures names { IfOk result (λ ran. Handed (Some []) ran.files.names (export_name ∷ trace_name ∷ [])) }
+    ensures err { IfOk result (λ ran. Reports ran.files.names ran.status (Some []) (Some ran.err.bytes) ran.err.faults) }
 {
-    let mut files = files;
+    let mut files = holding(alloc, export, trace)?;
     files.fail_at(failing.files)?;
     let mut out = MemSink::new(alloc);
     out.fail_at(failing.out)?;
     let mut err = MemSink::new(alloc);
     err.fail_at(failing.err)?;
-    let words = owned(alloc, words)?;
-    let status = replay(alloc, words.as_slice(), &mut files, &mut out, &mut err);
-    Ok(Ran { status, out, err })
+    let words = [
+        String::from_str(alloc, "run")?,
+        String::from_str(alloc, "e.json")?,
+        String::from_str(alloc, "t.jsonl")?,
+    ];
+    let status = replay(alloc, &words, &mut files, &mut out, &mut err);
+    Ok(Ran {
+        status,
+        files,
+        out,
+        err,
+    })
 }
 
-fn owned(alloc: Global, words: &[&str]) -> Result<Vec<String>, OutOfMemory> {
-    let mut made = Vec::new(alloc);
-    for word in words {
-        made.push(String::from_str(alloc, word)?)?;
-    }
-    Ok(made)
+// Files that hold the export as `e.json` and the trace as `t.jsonl`.
+fn holding(alloc: Global, export: &[u8], trace: &[u8]) -> Result<MemFiles, OutOfMemory>
+    ensures held { IfOk result (λ files. HoldsBoth files.held export.now trace.now) }
+    ensures unfailed { IfOk result (λ files. files.faults ≡ 0) }
+    ensures names { IfOk result (λ files. files.names ≡ Some []) }
+{
+    let mut files = MemFiles::new(alloc);
+    files.add("e.json", export)?;
+    files.add("t.jsonl", trace)?;
+    Ok(files)
 }
