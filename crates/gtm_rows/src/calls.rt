@@ -1,5 +1,5 @@
 use data_layer::Layer;
-use gtm_base::{Files, Keyed, ListOf, MemFiles, MemSink, Text, read_whole};
+use gtm_base::{Files, Keyed, ListOf, MemFiles, MemSink, OutSink, Sink, Text, put, read_whole};
 use gtm_data::{
     Data, Members, copy, from_json, get, json_text, text_of, whole_text, write_json, write_quoted,
 };
@@ -27,6 +27,9 @@ fn texts_and_lists(rt: HostRuntime) -> Result<(), Fail> {
     list.insert(1, 2)?;
     list.reverse();
     assert_eq!(rt; list.as_slice(), [4u8, 3, 2, 1].as_slice());
+    assert_eq!(rt; list.remove(1), 3);
+    assert_eq!(rt; list.pop(), Some(1));
+    assert_eq!(rt; list.as_slice(), [4u8, 2].as_slice());
     let mut keyed = Keyed::new(alloc);
     keyed.push(Text::from_str(alloc, "k")?, 7u8)?;
     assert_eq!(rt; keyed.get("k"), Some(&7u8));
@@ -50,6 +53,23 @@ fn files_in_memory(rt: HostRuntime) -> Result<(), Fail> {
     Ok(())
 }
 
+// A slice takes what there is room for, and then nothing.
+#[test]
+fn writers(rt: HostRuntime) -> Result<(), Fail> {
+    let mut written = Vec::new(rt.alloc());
+    let mut sink = OutSink::over(&mut written);
+    put(&mut sink, b"ab")?;
+    put(&mut sink, b"c")?;
+    assert_eq!(rt; sink.faults(), 0);
+    assert_eq!(rt; written.as_slice(), b"abc".as_slice());
+    let mut room = [0u8; 4];
+    let mut sink = OutSink::over(room.as_mut_slice());
+    assert!(rt; put(&mut sink, b"a line").is_err());
+    assert_eq!(rt; sink.faults(), 1);
+    assert_eq!(rt; room.as_slice(), b"a li".as_slice());
+    Ok(())
+}
+
 #[test]
 fn values(rt: HostRuntime) -> Result<(), Fail> {
     let alloc = rt.alloc();
@@ -59,8 +79,9 @@ fn values(rt: HostRuntime) -> Result<(), Fail> {
     assert_eq!(rt; json_text(alloc, &copy(alloc, &made)?)?.as_str(), source);
     let mut out = Text::new(alloc);
     write_quoted(&mut out, "q")?;
+    write_quoted(&mut out, "a\"\n\u{1f}\u{e9}")?;
     write_json(&mut out, &Data::Bool(true))?;
-    assert_eq!(rt; out.as_str(), "\"q\"true");
+    assert_eq!(rt; out.as_str(), "\"q\"\"a\\\"\\n\\u001f\u{e9}\"true");
     match get(&made, "a.1.b") {
         Some(found) => assert_eq!(rt; text_of(alloc, found)?.as_str(), "x/y"),
         None => assert!(rt; false, "nothing is found"),

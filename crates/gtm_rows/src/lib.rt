@@ -12,6 +12,8 @@ mod calls;
 #[cfg(test)]
 mod failures;
 #[cfg(test)]
+mod faults;
+#[cfg(test)]
 mod merges;
 #[cfg(test)]
 mod outside;
