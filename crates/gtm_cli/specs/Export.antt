@@ -1,14 +1,9 @@
 -- The rules of an export.
 use Rattle.std.specs.Prelude.{ℕ, nat_lt, ◌==◌, ◌&&◌, List, [], length, Bool, true, false, Option, Some, None, if◌then◌else◌, codes, option_and_then, is_some}
-use Rattle.std.specs.Str.{is_utf8}
 use Rattle.serde_json.specs.Data as json
-use Rattle.serde_json.specs.Read.{read}
 use Rattle.serde_json.specs.Find.{get, as_number, as_u64, as_object}
+use Rattle.gtm_data.specs.Json.{json_of}
 use Rattle.gtm_cli.specs.declared.export.Refusal.{Refusal}
-
--- the tree of a JSON text in UTF-8
-abbrev pub json_of : List ℕ → Option json.Data
-json_of bytes = if is_utf8 bytes then read bytes else None
 
 -- whether there is a number and it is this one
 abbrev pub is_number : ℕ → Option ℕ → Bool

@@ -6,7 +6,7 @@ use Rattle.serde_json.specs.Data as json
 use Rattle.gtm_data.specs.Tree.{Tree, list, text_in}
 use Rattle.gtm_data.specs.Paths.{member_of}
 use Rattle.gtm_data.specs.Plain.{plain}
-use Rattle.gtm_cli.specs.Export.{json_of}
+use Rattle.gtm_data.specs.Json.{json_of}
 use Rattle.gtm_cli.specs.declared.steps.BadLine.{BadLine}
 
 -- a line without its LF, and how many bytes it has with its LF

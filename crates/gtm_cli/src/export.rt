@@ -3,8 +3,8 @@ ghost use Rattle.serde_json.specs.View.{view};
 ghost use Rattle.serde_json.specs.Find.{get, as_number, as_u64};
 ghost use Rattle.gtm_cli.specs.Export.{first_broken, is_built, is_number, has_no_entries, has_no_items, is_empty_list};
 
-use crate::json::json_of;
 use gtm_base::{OutOfMemory, Text};
+use gtm_data::json_of;
 use serde_json::Value;
 use std::alloc::Global;
 

@@ -9,7 +9,6 @@ mod engine;
 mod export;
 mod export_file;
 mod failure;
-mod json;
 mod laws;
 mod lines;
 mod replaying;

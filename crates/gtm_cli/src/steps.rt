@@ -6,9 +6,8 @@ ghost use Rattle.gtm_data.specs.Plain.{plain};
 ghost use Rattle.gtm_cli.specs.ReadingOf.{reading_of};
 ghost use Rattle.gtm_cli.specs.Trace.{read_line, step_in, form_of, push_of, is_built, is_list, is_text, event_name, is_blank};
 
-use crate::json::json_of;
 use gtm_base::{OutOfMemory, Text};
-use gtm_data::{Data, DataEnd, from_json};
+use gtm_data::{Data, DataEnd, from_json, json_of};
 use serde_json::{Map, Value};
 use std::alloc::Global;
 

@@ -4,6 +4,7 @@ pub mod Dotless
 pub mod Dots
 pub mod Indexes
 pub mod Joined
+pub mod JsonRead
 pub mod Levels
 pub mod Lists
 pub mod Members

@@ -1,4 +1,5 @@
 pub mod Distinct
+pub mod Json
 pub mod JsonText
 pub mod Paths
 pub mod Plain

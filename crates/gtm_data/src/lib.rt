@@ -10,6 +10,7 @@
 
 mod copying;
 mod data;
+mod json;
 mod laws;
 mod numbers;
 mod printing;
@@ -20,12 +21,13 @@ mod walking;
 
 pub use copying::copy;
 pub use data::{Data, Items, Members};
+pub use json::json_of;
 pub use laws::{
     data_is_plain_exactly_where_it_is_shallow, dotted_texts_are_their_parts, get_goes_by_steps,
     keys_are_distinct,
 };
 pub use numbers::{whole_of, whole_text};
 pub use printing::{json_text, write_json, write_quoted};
-pub use reading::{DataEnd, from_json};
+pub use reading::{DataEnd, check_json, from_json};
 pub use texts::text_of;
 pub use walking::get;

@@ -1,6 +1,6 @@
-ghost use Rattle.std.specs.Prelude.{◌≡◌, [], None, Some, IfOk, IfErr};
+ghost use Rattle.std.specs.Prelude.{◌≡◌, [], None, Some, IfOk, IfErr, OnOk};
 ghost use Rattle.serde_json.specs.View.{view, items_view, members_view};
-ghost use Rattle.gtm_data.specs.Plain.{plain, tree_in, trees_in, entries_in};
+ghost use Rattle.gtm_data.specs.Plain.{plain, not_whole, too_deep, tree_in, trees_in, entries_in};
 ghost use Rattle.gtm_data.specs.Refusals.{Refuses, IsOutOfMemory};
 ghost use Rattle.gtm_data.specs.Tree.{tree_of, trees_of, entries_of};
 
@@ -37,13 +37,24 @@ pub fn from_json(alloc: Global, tree: &Value) -> Result<Data, DataEnd>
     ensures ok { IfOk result (λ made. plain (view tree.now) ≡ Some (tree_of made)) }
     ensures err { IfErr result (Refuses (view tree.now)) }
 {
+    match check_json(alloc, tree) {
+        Ok(()) => Ok(convert(alloc, tree)?),
+        Err(end) => Err(end),
+    }
+}
+
+/// Whether there is data of a JSON tree: `Ok` exactly where `from_json` gives some, memory aside, and else its very error.
+pub fn check_json(alloc: Global, tree: &Value) -> Result<(), DataEnd>
+    ensures ok { OnOk result ((not_whole (view tree.now) ≡ None) × (too_deep (view tree.now) ≡ None)) }
+    ensures err { IfErr result (Refuses (view tree.now)) }
+{
     if let Some(path) = not_whole(alloc, tree)? {
         return Err(DataEnd::NotWhole { path });
     }
     if let Some(path) = too_deep(alloc, DEPTH_LIMIT, tree)? {
         return Err(DataEnd::TooDeep { path });
     }
-    Ok(convert(alloc, tree)?)
+    Ok(())
 }
 
 // The data of a tree whose numbers are all whole and in range.

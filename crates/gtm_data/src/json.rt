@@ -1,6 +1,6 @@
 ghost use Rattle.std.specs.Prelude.{◌≡◌, IfOk, option_map};
 ghost use Rattle.serde_json.specs.View.{view};
-ghost use Rattle.gtm_cli.specs.Export.{json_of};
+ghost use Rattle.gtm_data.specs.Json.{json_of};
 
 use gtm_base::OutOfMemory;
 use serde_json::Value;

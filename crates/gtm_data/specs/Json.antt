@@ -1,0 +1,9 @@
+-- JSON texts.
+use Rattle.std.specs.Prelude.{ℕ, List, Option, None, if◌then◌else◌}
+use Rattle.std.specs.Str.{is_utf8}
+use Rattle.serde_json.specs.Data as json
+use Rattle.serde_json.specs.Read.{read}
+
+-- the tree of a JSON text in UTF-8
+abbrev pub json_of : List ℕ → Option json.Data
+json_of bytes = if is_utf8 bytes then read bytes else None
