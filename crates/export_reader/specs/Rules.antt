@@ -1,0 +1,93 @@
+-- The rules of an export, each by itself: the path at which it is first broken, if it is.
+use Rattle.std.specs.Prelude.{ℕ, List, [], length, map, Bool, false, Option, Some, None, option_map, option_and_then, is_some, codes, nat_lt, ◌==◌, ◌||◌, if◌then◌else◌}
+use Rattle.std.specs.Option.{option_map_or}
+use Rattle.std.specs.Str.{bytes_eq, chars}
+use Rattle.serde_json.specs.Data as json
+use Rattle.serde_json.specs.Find.{get, as_number, as_u64, as_object, as_str}
+use Rattle.text_places.specs.Places.{first_repeat}
+use Rattle.export_fields.specs.Fault.{in_key, in_index, ◌then◌}
+use Rattle.export_fields.specs.Words.{folded}
+use Rattle.export_entries.specs.Entries.{entries_fault}
+use Rattle.export_entries.specs.declared.entries.WrittenEntries.{WrittenEntries}
+
+-- rule 1: it has over 8,388,608 bytes
+abbrev pub too_large : List ℕ → Option (List ℕ)
+too_large bytes = if nat_lt 8388608 (length bytes) then Some [] else None
+
+-- rule 2: it is no JSON text in UTF-8
+abbrev pub not_json : Option json.Data → Option (List ℕ)
+not_json None = Some []
+not_json (Some d) = None
+
+-- whether there is a number and it is 2
+abbrev pub is_two : Option ℕ → Bool
+is_two None = false
+is_two (Some number) = number == 2
+
+-- rule 5: its format is not the number 2
+abbrev pub other_format : json.Data → Option (List ℕ)
+other_format d = if is_two (option_and_then as_u64 (option_and_then as_number (get (codes "exportFormatVersion") d))) then None else Some (in_key (codes "exportFormatVersion") [])
+
+-- the same value, where it is an object
+abbrev pub only_object : json.Data → Option json.Data
+only_object d = if is_some (as_object d) then Some d else None
+
+-- the container version, where it is an object
+abbrev pub version_in : json.Data → Option json.Data
+version_in d = option_and_then only_object (get (codes "containerVersion") d)
+
+-- rule 6: its container version is no object
+abbrev pub no_version : json.Data → Option (List ℕ)
+no_version d = if is_some (version_in d) then None else Some (in_key (codes "containerVersion") [])
+
+-- whether a text is the word web
+abbrev pub is_web : json.Data → Bool
+is_web d = option_map_or (λ text. bytes_eq (folded (chars text)) (codes "web")) (as_str d) false
+
+-- whether the word web is among these
+abbrev pub has_web : json.Items → Bool
+has_web json.no_items = false
+has_web (json.item d ds) = is_web d || has_web ds
+
+-- whether it is a list with the word web
+abbrev pub lists_web : json.Data → Bool
+lists_web (json.array ds) = has_web ds
+lists_web _ = false
+
+-- what the container of a version is used in, if it says so
+abbrev pub context_of : json.Data → Option json.Data
+context_of version = option_and_then (get (codes "usageContext")) (get (codes "container") version)
+
+-- the path of what the container is used in
+abbrev pub context_path : List ℕ
+context_path = in_key (codes "containerVersion") (in_key (codes "container") (in_key (codes "usageContext") []))
+
+-- rule 7: the container says what it is used in, and web is not among that
+abbrev pub not_web : json.Data → Option (List ℕ)
+not_web version = option_map_or (λ context. if lists_web context then None else Some context_path) (context_of version) None
+
+-- rule 8: a field has another kind than it needs
+abbrev pub field_kind : json.Data → Option (List ℕ)
+field_kind version = option_map (in_key (codes "containerVersion")) (entries_fault version)
+
+-- the path of an entry of a container version
+abbrev pub entry_path : List ℕ → ℕ → List ℕ
+entry_path key at = in_key (codes "containerVersion") (in_key key (in_index at []))
+
+-- the path of the first entry of a list that has the text of an earlier one
+abbrev pub repeated : List ℕ → List (List ℕ) → Option (List ℕ)
+repeated key texts = option_map (entry_path key) (first_repeat texts)
+
+-- rule 9: an entry has the id of an earlier one of its list
+unfoldable pub duplicate_id : WrittenEntries → Option (List ℕ)
+duplicate_id written =
+    repeated (codes "tag") (map (λ tag. tag.id) written.tags)
+    then repeated (codes "trigger") (map (λ trigger. trigger.id) written.triggers)
+    then repeated (codes "variable") (map (λ variable. variable.id) written.variables)
+    then repeated (codes "customTemplate") (map (λ template. template.id) written.templates)
+
+-- rule 10: a tag has the name of an earlier one, or a variable that of an earlier one
+unfoldable pub duplicate_name : WrittenEntries → Option (List ℕ)
+duplicate_name written =
+    repeated (codes "tag") (map (λ tag. tag.name) written.tags)
+    then repeated (codes "variable") (map (λ variable. variable.name) written.variables)

@@ -1,0 +1,57 @@
+ghost use Rattle.std.specs.Prelude.{◌≡◌, [], None, Some, IfOk, IfErr, option_map};
+ghost use Rattle.export_entries.specs.Entries.{entries_of};
+ghost use Rattle.export_reader.specs.FirstBroken.{first_broken, rules_of, version_of, Refuses};
+
+use crate::versions::judge_tree;
+use export_entries::WrittenEntries;
+use gtm_base::{OutOfMemory, Text};
+use gtm_data::json_of;
+use std::alloc::Global;
+
+/// An export has at most so many bytes.
+pub const MAX_EXPORT: usize = 8_388_608;
+
+/// Why nothing was read of an export.
+#[derive(Debug, Drop)]
+pub enum ExportEnd {
+    /// Memory was wanting.
+    OutOfMemory,
+    /// The export breaks this rule, first at this path, a JSON pointer. It breaks no rule of a smaller number.
+    Refused { rule: u8, path: Text },
+}
+
+impl From<OutOfMemory> for ExportEnd {
+    ghost use Rattle.export_reader.specs.FirstBroken.{IsOutOfMemory};
+
+    ghost from_gives = { λ _ end. IsOutOfMemory end };
+
+    fn from(_: OutOfMemory) -> ExportEnd {
+        ExportEnd::OutOfMemory
+    }
+}
+
+/// The container version of an export's bytes, as it is written. `Refused` comes exactly where a rule is broken, and names the least one and its first path.
+#[tactic(auto, unfolding(crate::specs::FirstBroken::rules_of))]
+pub fn read_written(alloc: Global, bytes: &[u8]) -> Result<WrittenEntries, ExportEnd>
+    ensures ok { IfOk result (λ made. first_broken bytes.now ≡ None) }
+    ensures entries { IfOk result (λ made. option_map entries_of (version_of bytes.now) ≡ Some made) }
+    ensures refused { IfErr result (Refuses (rules_of bytes.now)) }
+{
+    if bytes.len() > MAX_EXPORT {
+        return Err(refused_here(alloc, 1));
+    }
+    match json_of(alloc, bytes)? {
+        None => Err(refused_here(alloc, 2)),
+        Some(tree) => judge_tree(alloc, &tree),
+    }
+}
+
+// A refusal of the whole.
+fn refused_here(alloc: Global, rule: u8) -> ExportEnd
+    ensures { result ≡ ExportEnd.Refused rule [] }
+{
+    ExportEnd::Refused {
+        rule,
+        path: Text::new(alloc),
+    }
+}
