@@ -1,5 +1,5 @@
 -- JSON lists without items.
-use Rattle.std.proofs.Common.{◌≡◌, List, [], ◌∷◌, length, true, false, refl, sym, arith}
+use Rattle.std.proofs.Common.{◌≡◌, List, [], ◌∷◌, length, false, refl, sym, arith}
 use Rattle.std.specs.Prelude.{◌==◌}
 use Rattle.std.proofs.lemmas.Bool.Decides.{nat_tests}
 use Rattle.serde_json.specs.Data as json
