@@ -97,6 +97,7 @@ nested_fault_is_lists : (key : List ℕ) (d : Data) → nested_fault key d ≡ l
 unfolding nested_fault list_fault
 nested_fault_is_lists key d = optional_alike key (get key d)
 
+-- a parameter is read by its fields
 pub reads_by_fields : (d : Data) → IsReadByFields d
 reads_by_fields d = record {
   fault = not_param_parts d ∙ (λ i. not_object d then param_fault_with d (nested_fault_is_lists (codes "list") d i) (nested_fault_is_lists (codes "map") d i));

@@ -34,6 +34,7 @@ impl Entry for Text {
     }
 }
 
+// What the items stand for.
 fn items_of<T: Entry>(alloc: Global, items: &Vec<Value>) -> Result<ListOf<T>, ReadEnd>
     ensures { Reads result (items_fault T.fault 0 (items_view items.now.items)) (items_made T.made (items_view items.now.items)) }
 {

@@ -22,6 +22,7 @@ pub fn object_at<T: Entry>(alloc: Global, object: &Value, key: &str) -> Result<O
     }
 }
 
+// What the one item stands for, where there is one.
 #[tactic(auto, using(crate::proofs::Only::only_fault_of_many))]
 fn only_of<T: Entry>(alloc: Global, items: &[Value]) -> Result<Option<T>, ReadEnd>
     ensures { Reads result (only_fault T.fault (items_view items.now)) (only_of T.made (items_view items.now)) }

@@ -84,6 +84,7 @@ impl Entry for WrittenParam {
     }
 }
 
+// The parameter that the value stands for.
 #[cycle(params)]
 #[tactic(auto, using(crate::proofs::Nested::not_param_parts, crate::proofs::Nested::as_param_parts))]
 fn as_param(alloc: Global, value: &Value) -> Result<WrittenParam, ReadEnd>
@@ -119,6 +120,7 @@ fn nested_at(alloc: Global, object: &Value, key: &str) -> Result<WrittenParams, 
     }
 }
 
+// The parameters that the value stands for.
 #[cycle(params)]
 #[tactic(auto, unfolding(crate::specs::Params::not_params, crate::specs::Params::as_params))]
 fn as_params(alloc: Global, value: &Value) -> Result<WrittenParams, ReadEnd>
@@ -130,6 +132,7 @@ fn as_params(alloc: Global, value: &Value) -> Result<WrittenParams, ReadEnd>
     }
 }
 
+// The parameters that the items stand for.
 #[cycle(params)]
 #[tactic(auto, unfolding(crate::specs::Params::item_params_fault, crate::specs::Params::item_params))]
 fn item_params(alloc: Global, items: &Vec<Value>) -> Result<WrittenParams, ReadEnd>

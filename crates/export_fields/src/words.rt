@@ -37,6 +37,7 @@ pub fn folded(alloc: Global, text: &str) -> Result<Text, OutOfMemory>
     Ok(word)
 }
 
+// What the value stands for as a word, or `None` where it is none of the list or no text.
 fn as_word<W: WordList>(alloc: Global, value: &Value) -> Result<Option<W>, OutOfMemory>
     ensures { IfOk result (λ named. named ≡ as_word W.named (view value.now)) }
 {
