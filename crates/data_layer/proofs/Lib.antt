@@ -1,5 +1,6 @@
 pub mod Afters
 pub mod Determined
+pub mod FewParts
 pub mod Items
 pub mod LastValues
 pub mod LayerKeys

@@ -19,11 +19,16 @@ pub fn is_too_deep(members: &Members) -> bool
     false
 }
 
-// The parts of the key and the depth of the value together. Any number over 64 stands for every other.
+// Over 64 where the parts of the key and the depth of the value are together, and else not.
 fn levels(key: &str, value: &Data) -> usize
     ensures { nat_lt 64 result ≡ nat_lt 64 (length (dotted (chars key.now)) + spec.depth (tree_of value.now)) }
 {
-    part_count(key).saturating_add(usize::from(depth(value)))
+    let depth = usize::from(depth(value));
+    // A key has at most one part more than it has bytes.
+    if key.len().saturating_add(depth) < 64 {
+        return depth;
+    }
+    part_count(key).saturating_add(depth)
 }
 
 fn part_count(key: &str) -> usize

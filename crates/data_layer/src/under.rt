@@ -10,6 +10,7 @@ use crate::merging::merge_member;
 use crate::nesting::nested;
 use gtm_base::{OutOfMemory, Text};
 use gtm_data::{Data, Members};
+use memchr::memchr;
 use std::alloc::Global;
 
 /// Merges a value under the parts of a key, as if it were nested in Maps under them. Where memory is wanting, the model is left half merged.
@@ -74,5 +75,7 @@ fn cut(key: &str) -> Option<(&str, &str)>
     ensures shorter { IfSome result (λ found. length found.1.now < length key.now) }
     ensures last { IfNone result (dotted (chars key.now) ≡ chars key.now ∷ []) }
 {
+    // Most keys have no dot, and this sees it sooner.
+    let _dot = memchr(b'.', key.as_bytes())?;
     key.split_once('.')
 }
