@@ -1,0 +1,14 @@
+//! Turns the parameters of an export as they are written into those of the model, in which each name is a number.
+//!
+//! A text is cut into names in double braces and what stands around them, and each name is looked up: `_event` is the
+//! name of the event, then come the container's variables, then its built-in variables. `param_of` and `params_of` give
+//! exactly the parameter that `specs/` tells, or only memory was wanting.
+#![tactic(auto)]
+
+mod names;
+mod params;
+mod pieces;
+
+pub use names::{Names, name_ref};
+pub use params::{param_of, params_of};
+pub use pieces::pieces_of;
