@@ -1,5 +1,7 @@
 pub mod Cuts
+pub mod Lacks
 pub mod Literals
 pub mod Numbered
 pub mod Splits
 pub mod Twice
+pub mod Wholes

@@ -24,7 +24,7 @@ begins_twice c d [] true is e = cc
 begins_twice c d (b ∷ rest) true is e = λ i. same_character d c is i ∷ same_character b c e i ∷ rest
 
 module _ (c : ℕ) where
-  stands_at : (d : ℕ) (rest : List ℕ) → (eqb d c && begins_with c rest) ≡ true → d ∷ rest ≡ c ∷ c ∷ drop 1 rest
+  pub stands_at : (d : ℕ) (rest : List ℕ) → (eqb d c && begins_with c rest) ≡ true → d ∷ rest ≡ c ∷ c ∷ drop 1 rest
   stands_at d rest e = begins_twice c d rest (eqb d c) refl e
 
   abbrev Stands : List ℕ → List ℕ × List ℕ → Type 0

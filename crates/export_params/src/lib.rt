@@ -5,10 +5,12 @@
 //! exactly the parameter that `specs/` tells, or only memory was wanting.
 #![tactic(auto)]
 
+mod laws;
 mod names;
 mod params;
 mod pieces;
 
+pub use laws::{a_parameter_is_turned_by_its_fields, a_text_is_cut_whole};
 pub use names::{Names, name_ref};
 pub use params::{param_of, params_of};
 pub use pieces::pieces_of;

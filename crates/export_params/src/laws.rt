@@ -1,0 +1,18 @@
+ghost use Rattle.std.specs.Prelude.{◌≡◌, ℕ, List};
+ghost use Rattle.export_fields.specs.declared.params.WrittenParam.{WrittenParam, out-WrittenParam};
+ghost use Rattle.export_params.specs.Cut.{cut};
+ghost use Rattle.export_params.specs.Names.{NameLists};
+ghost use Rattle.export_params.specs.Params.{value_with, param_of, params_of};
+ghost use Rattle.export_params.specs.Whole.{IsCut};
+
+/// A law, with nothing to call: the pieces of a text, put together again with each name in its braces, give the text; no literal is empty or has a `{{` with a `}}` behind it, no two literals follow each other, a name begins at the first `{{` from the literal before it on, and it ends at the first `}}`.
+pub fn a_text_is_cut_whole()
+    ensures { (text : List ℕ) → IsCut text (cut text) }
+{}
+
+/// A law, with nothing to call: a parameter of the model has the key of the written one, and the value that its kind and its text say, with the parameters that stand for those of its list and of its map.
+pub fn a_parameter_is_turned_by_its_fields()
+    ensures key { (names : NameLists) (written : WrittenParam) → (param_of names written).key ≡ (out-WrittenParam written).key }
+    ensures value { (names : NameLists) (written : WrittenParam) →
+        (param_of names written).value ≡ value_with names (out-WrittenParam written).kind (out-WrittenParam written).value (params_of names (out-WrittenParam written).list) (params_of names (out-WrittenParam written).map) }
+{}
