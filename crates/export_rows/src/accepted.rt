@@ -1,0 +1,104 @@
+use crate::judging::{told, with_version};
+use export_entries::WrittenOption;
+use export_reader::read_written;
+use std::test::Fail;
+
+// Members of a container version that breaks no rule.
+struct Accepted {
+    name: &'static str,
+    members: &'static [u8],
+}
+
+const ACCEPTED: &[Accepted] = &[
+    Accepted {
+        name: "no lists",
+        members: b"",
+    },
+    Accepted {
+        name: "empty lists, and a container that says nothing",
+        members: br#""container":{},"tag":[],"trigger":[],"variable":[],"builtInVariable":[],"customTemplate":[]"#,
+    },
+    Accepted {
+        name: "web among others, with an underscore",
+        members: br#""container":{"usageContext":[null,"ANDROID","wE_b"]}"#,
+    },
+    Accepted {
+        name: "words with underscores and capitals",
+        members: br#""tag":[{"tagId":"1","name":"A","type":"html","parameter":[{"type":"Tag_Reference"},{"type":"TRIGGER_REFERENCE"},{"type":"_l_i_s_t_"}],"tagFiringOption":"OncePerEvent","consentSettings":{"consentStatus":"NOT_NEEDED"}}],"variable":[{"variableId":"1","name":"V","type":"v","formatValue":{"caseConversionType":"Upper_Case"}}]"#,
+    },
+    Accepted {
+        name: "unnamed fields of any kind",
+        members: br#""folder":null,"notes":[true,{"tagId":5}],"tag":[{"tagId":"1","name":"A","type":"html","notes":7,"monitoringMetadata":false,"parentFolderId":[]}],"trigger":[{"triggerId":"1","type":"CLICK","waitForTags":{"type":"FLOAT"},"tagId":null}]"#,
+    },
+    Accepted {
+        name: "the ends of the range",
+        members: br#""fingerprint":[-9007199254740991,9007199254740991]"#,
+    },
+    Accepted {
+        name: "Lists with 63 above the last",
+        members: br#""folder":[[[[[[[[[[[[[[[[[[[[[[[[[[[[[[[[[[[[[[[[[[[[[[[[[[[[[[[[[[[[[[]]]]]]]]]]]]]]]]]]]]]]]]]]]]]]]]]]]]]]]]]]]]]]]]]]]]]]]]]]]]]]"#,
+    },
+    Accepted {
+        name: "ids and names of different lists, and names of triggers",
+        members: br#""tag":[{"tagId":"1","name":"A","type":"html"}],"trigger":[{"triggerId":"1","name":"A","type":"CLICK"},{"triggerId":"2","name":"A","type":"CLICK"}],"variable":[{"variableId":"1","name":"A","type":"v"}],"builtInVariable":[{"type":"EVENT","name":"A"},{"type":"EVENT","name":"A"}],"customTemplate":[{"templateId":"1","name":"A","templateData":""},{"templateId":"2","name":"A","templateData":""}]"#,
+    },
+];
+
+#[test]
+fn accepted_exports(rt: HostRuntime) -> Result<(), Fail> {
+    let alloc = rt.alloc();
+    for row in ACCEPTED {
+        let export = with_version(alloc, row.members)?;
+        let (rule, path) = told(alloc, &export)?;
+        assert_eq!(rt; path.as_str(), "", "{}", row.name);
+        assert_eq!(rt; rule, 0, "{}", row.name);
+    }
+    Ok(())
+}
+
+// A tag in a container version, its firing option, and the ends of its schedule.
+struct Scheduled {
+    name: &'static str,
+    members: &'static [u8],
+    option: WrittenOption,
+    from_ms: Option<i64>,
+    until_ms: Option<i64>,
+}
+
+const SCHEDULED: &[Scheduled] = &[
+    Scheduled {
+        name: "neither an option nor a schedule",
+        members: br#""tag":[{"tagId":"1","name":"A","type":"html"}]"#,
+        option: WrittenOption::OncePerEvent,
+        from_ms: None,
+        until_ms: None,
+    },
+    Scheduled {
+        name: "a schedule as a number and as a text",
+        members: br#""tag":[{"tagId":"1","name":"A","type":"html","tagFiringOption":"ONCE_PER_LOAD","scheduleStartMs":1714521600000,"scheduleEndMs":"1714608000000"}]"#,
+        option: WrittenOption::OncePerLoad,
+        from_ms: Some(1714521600000),
+        until_ms: Some(1714608000000),
+    },
+    Scheduled {
+        name: "a schedule before 1970",
+        members: br#""tag":[{"tagId":"1","name":"A","type":"html","tagFiringOption":"Un_Limited","scheduleStartMs":"-5","scheduleEndMs":-4}]"#,
+        option: WrittenOption::Unlimited,
+        from_ms: Some(-5),
+        until_ms: Some(-4),
+    },
+];
+
+#[test]
+fn accepted_schedules(rt: HostRuntime) -> Result<(), Fail> {
+    let alloc = rt.alloc();
+    for row in SCHEDULED {
+        let export = with_version(alloc, row.members)?;
+        let written = read_written(alloc, &export)?;
+        let tag = written.tags.get(0).ok_or("no tag")?;
+        assert_eq!(rt; tag.turn.option, row.option, "{}", row.name);
+        assert_eq!(rt; tag.turn.from_ms, row.from_ms, "{}", row.name);
+        assert_eq!(rt; tag.turn.until_ms, row.until_ms, "{}", row.name);
+    }
+    Ok(())
+}

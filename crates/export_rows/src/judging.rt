@@ -1,0 +1,37 @@
+use export_reader::{ExportEnd, read_written};
+use gtm_base::{OutOfMemory, Text};
+use std::alloc::Global;
+
+/// An export or a part of one, the least rule that it breaks, and the first path of that rule.
+pub struct Row {
+    pub name: &'static str,
+    pub text: &'static [u8],
+    pub rule: u8,
+    pub path: &'static str,
+}
+
+/// The rule that is told of an export and its path, or 0 and the empty path where the export is read.
+pub fn told(alloc: Global, export: &[u8]) -> Result<(u8, Text), OutOfMemory> {
+    match read_written(alloc, export) {
+        Ok(_) => Ok((0, Text::new(alloc))),
+        Err(ExportEnd::Refused { rule, path }) => Ok((rule, path)),
+        Err(ExportEnd::OutOfMemory) => Err(OutOfMemory),
+    }
+}
+
+/// The export whose container version has these members.
+pub fn with_version(alloc: Global, members: &[u8]) -> Result<Vec<u8>, OutOfMemory> {
+    let mut export = Vec::new(alloc);
+    export.extend_from_slice(b"{\"exportFormatVersion\":2,\"containerVersion\":{")?;
+    export.extend_from_slice(members)?;
+    export.extend_from_slice(b"}}")?;
+    Ok(export)
+}
+
+/// The text with spaces behind it, up to so many bytes.
+pub fn padded(alloc: Global, text: &[u8], bytes: usize) -> Result<Vec<u8>, OutOfMemory> {
+    let mut export = Vec::new(alloc);
+    export.extend_from_slice(text)?;
+    export.resize(bytes, b' ')?;
+    Ok(export)
+}

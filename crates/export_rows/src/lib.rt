@@ -1,0 +1,20 @@
+//! Tests of `export_reader` from outside, each expected value worked out by hand from the rules of an export.
+//!
+//! Forty broken exports with the least rule that each breaks and its first path, exports that are read, and all that is
+//! read of one as it comes from Google Tag Manager.
+#![tactic(auto)]
+
+#[cfg(test)]
+mod accepted;
+#[cfg(test)]
+mod broken;
+#[cfg(test)]
+mod judging;
+#[cfg(test)]
+mod params;
+#[cfg(test)]
+mod realistic;
+#[cfg(test)]
+mod version_rows;
+#[cfg(test)]
+mod whole_rows;
