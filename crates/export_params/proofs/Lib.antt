@@ -2,6 +2,7 @@ pub mod Cuts
 pub mod Lacks
 pub mod Literals
 pub mod Numbered
+mod Rows
 pub mod Splits
 pub mod Twice
 pub mod Wholes
