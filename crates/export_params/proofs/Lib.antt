@@ -5,4 +5,5 @@ pub mod Numbered
 mod Rows
 pub mod Splits
 pub mod Twice
+pub mod Unique
 pub mod Wholes

@@ -1,13 +1,14 @@
 ghost use Rattle.std.specs.Prelude.{◌≡◌, ℕ, List};
 ghost use Rattle.export_fields.specs.declared.params.WrittenParam.{WrittenParam, out-WrittenParam};
-ghost use Rattle.export_params.specs.Cut.{cut};
+ghost use Rattle.export_params.specs.Cut.{WrittenPiece, cut};
 ghost use Rattle.export_params.specs.Names.{NameLists};
 ghost use Rattle.export_params.specs.Params.{value_with, param_of, params_of};
 ghost use Rattle.export_params.specs.Whole.{IsCut};
 
-/// A law, with nothing to call: the pieces of a text, put together again with each name in its braces, give the text; no literal is empty or has a `{{` with a `}}` behind it, no two literals follow each other, a name begins at the first `{{` from the literal before it on, and it ends at the first `}}`.
+/// A law, with nothing to call: the pieces of a text, put together again with each name in its braces, give the text; no literal is empty or has a `{{` with a `}}` behind it, no two literals follow each other, a name begins at the first `{{` from the literal before it on, and it ends at the first `}}`. No other list of pieces keeps to all that.
 pub fn a_text_is_cut_whole()
-    ensures { (text : List ℕ) → IsCut text (cut text) }
+    ensures whole { (text : List ℕ) → IsCut text (cut text) }
+    ensures only { (text : List ℕ) (pieces : List WrittenPiece) → IsCut text pieces → pieces ≡ cut text }
 {}
 
 /// A law, with nothing to call: a parameter of the model has the key of the written one, and the value that its kind and its text say, with the parameters that stand for those of its list and of its map.
