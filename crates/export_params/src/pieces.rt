@@ -23,8 +23,8 @@ pub fn pieces_of(alloc: Global, names: &Names, text: &str) -> Result<Pieces, Out
     Ok(made)
 }
 
-#[tactic(auto, unfolding(crate::specs::Cut::first_name))]
 // What stands before the first name of a text, the name, and what stands behind it.
+#[tactic(auto, unfolding(crate::specs::Cut::first_name))]
 fn first_name(text: &str) -> Option<(&str, &str, &str)>
     ensures { option_map (λ found. (chars found.0.now, chars found.1.now, chars found.2.now)) result ≡ first_name (chars text.now) }
 {

@@ -4,8 +4,8 @@ use export_fields::ParamKind;
 use export_reader::read_written;
 use std::test::Fail;
 
-// An export of two tags, a trigger, a variable, a built-in variable and a custom template.
-const EXPORT: &[u8] =
+/// An export of two tags, a trigger, a variable, a built-in variable and a custom template.
+pub const EXPORT: &[u8] =
     br#"{"exportFormatVersion":2,"exportTime":"2024-05-01 10:00:00","containerVersion":{"containerVersionId":"0","container":{"publicId":"GTM-ABC123","name":"shop","usageContext":["WEB"]},"tag":[{"tagId":"3","name":"GA4","type":"gaawe","parameter":[{"type":"BOOLEAN","key":"sendEcommerceData","value":"false"},{"type":"TEMPLATE","key":"eventName","value":"{{Event}}"}],"firingTriggerId":["2147479553"],"tagFiringOption":"ONCE_PER_EVENT","monitoringMetadata":{"type":"MAP"},"consentSettings":{"consentStatus":"NOT_SET"}},{"tagId":"4","name":"Pixel","type":"cvt_7_9","priority":{"type":"INTEGER","value":"5"},"parameter":[{"type":"TEMPLATE","key":"value","value":"{{Value}}"}],"notes":"buy","firingTriggerId":["5"],"parentFolderId":"8","tagFiringOption":"ONCE_PER_EVENT","consentSettings":{"consentStatus":"NEEDED","consentType":{"type":"LIST","list":[{"type":"TEMPLATE","value":"ad_storage"}]}}}],"trigger":[{"triggerId":"5","name":"Purchase","type":"CUSTOM_EVENT","customEventFilter":[{"type":"EQUALS","parameter":[{"type":"TEMPLATE","key":"arg0","value":"{{_event}}"},{"type":"TEMPLATE","key":"arg1","value":"purchase"}]}]}],"variable":[{"variableId":"6","name":"Value","type":"v","parameter":[{"type":"INTEGER","key":"dataLayerVersion","value":"2"},{"type":"TEMPLATE","key":"name","value":"value"}],"formatValue":{}}],"builtInVariable":[{"type":"EVENT","name":"Event"}],"folder":[{"folderId":"8","name":"Ads"}],"customTemplate":[{"containerId":"7","templateId":"9","name":"Pixel","templateData":"___INFO___\n\n{}\n"}]}}"#;
 
 // The container is named, and each list has as many entries as are shown.

@@ -1,0 +1,42 @@
+-- The container that the entries of an export stand for.
+use Rattle.std.specs.Prelude.{◌<◌, ◌^◌, ℕ, List, [], Option, length, map}
+use Rattle.std.specs.Option.{option_map_or}
+use Rattle.export_entries.specs.declared.entries.WrittenContainer.{WrittenContainer}
+use Rattle.export_entries.specs.declared.entries.WrittenEntries.{WrittenEntries}
+use Rattle.export_model.specs.declared.container.Container.{Container}
+use Rattle.export_numbers.specs.BuiltIns.{built_in_of}
+use Rattle.export_numbers.specs.Lists.{Lists, lists_of}
+use Rattle.export_numbers.specs.References.{references_of}
+use Rattle.export_numbers.specs.Tags.{tag_of}
+use Rattle.export_numbers.specs.Templates.{template_of}
+use Rattle.export_numbers.specs.TriggerEntries.{trigger_of}
+use Rattle.export_numbers.specs.Variables.{variable_of}
+
+-- few enough entries of each kind that each place has a number of 32 bits
+pub record HasFewEntries (written : WrittenEntries) : Type 0 where
+  pub tags : length written.tags < 2 ^ 32
+  pub triggers : length written.triggers < 2 ^ 32
+  pub variables : length written.variables < 2 ^ 32
+  pub built_ins : length written.built_ins < 2 ^ 32
+  pub templates : length written.templates < 2 ^ 32
+
+-- the public name of a container, empty where the export says nothing of it
+abbrev pub public_id_of : Option WrittenContainer → List ℕ
+public_id_of container = option_map_or (λ c. c.public_id) container []
+
+-- the container of entries whose names become numbers by these lists
+abbrev pub container_by : Lists → WrittenEntries → Container
+container_by lists written = record {
+  public_id = public_id_of written.container;
+  version_id = written.version_id;
+  tags = map (tag_of lists) written.tags;
+  triggers = map (trigger_of lists) written.triggers;
+  variables = map (variable_of lists) written.variables;
+  built_ins = map built_in_of written.built_ins;
+  templates = map template_of written.templates;
+  references = references_of lists.triggers written.tags written.triggers;
+}
+
+-- the container that entries stand for
+abbrev pub container_of : WrittenEntries → Container
+container_of written = container_by (lists_of written) written

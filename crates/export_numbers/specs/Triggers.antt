@@ -1,0 +1,74 @@
+-- When the triggers of an export are looked at, and the members of groups.
+use Rattle.std.specs.Prelude.{ℕ, List, [], ◌∷◌, Bool, true, false, Option, Some, None, ◌&&◌, not, find, if◌then◌else◌, unwrap_or, codes}
+use Rattle.std.specs.Option.{option_map_or}
+use Rattle.std.specs.Str.{bytes_eq}
+use Rattle.export_fields.specs.Words.{among, folded}
+use Rattle.export_fields.specs.declared.params.WrittenParam.{WrittenParam, out-WrittenParam}
+use Rattle.export_entries.specs.declared.triggers.WrittenTrigger.{WrittenTrigger}
+use Rattle.export_model.specs.declared.triggers.TriggerKind.{TriggerKind}
+use Rattle.export_model.specs.declared.triggers.TriggerKind.TheVariants.{Event, Custom, Group, Never}
+use Rattle.export_numbers.specs.Values.{value_of, values_of, has_key, is_template, is_list}
+
+-- the types of triggers that hold at an event of their own, with its name
+abbrev pub event_words : List (List ℕ × List ℕ)
+event_words =
+    (codes "pageview", codes "gtm.js")
+    ∷ (codes "domready", codes "gtm.dom")
+    ∷ (codes "windowloaded", codes "gtm.load")
+    ∷ (codes "init", codes "gtm.init")
+    ∷ (codes "consentinit", codes "gtm.init_consent")
+    ∷ (codes "click", codes "gtm.click")
+    ∷ (codes "linkclick", codes "gtm.linkClick")
+    ∷ (codes "formsubmission", codes "gtm.formSubmit")
+    ∷ (codes "historychange", codes "gtm.historyChange-v2")
+    ∷ (codes "jserror", codes "gtm.pageError")
+    ∷ (codes "scrolldepth", codes "gtm.scrollDepth")
+    ∷ (codes "elementvisibility", codes "gtm.elementVisibility")
+    ∷ (codes "youtubevideo", codes "gtm.video")
+    ∷ []
+
+-- a parameter is a text that is not empty
+abbrev pub is_filled : WrittenParam → Bool
+is_filled param = is_template (out-WrittenParam param).kind && not (bytes_eq (value_of param) (codes ""))
+
+-- the name of a timer's events: that of the trigger, as it was written, where it is a text that is not empty
+abbrev pub timer_event : Option WrittenParam → List ℕ
+timer_event None = codes "gtm.timer"
+timer_event (Some param) = if is_filled param then value_of param else codes "gtm.timer"
+
+-- the kinds of triggers that hold at no event of their own, with the name of a timer's events
+abbrev pub kind_words : List ℕ → List (List ℕ × TriggerKind)
+kind_words timer = (codes "timer", Event timer) ∷ (codes "customevent", Custom) ∷ (codes "triggergroup", Group) ∷ []
+
+-- the kind of a trigger of a type that holds at an event of its own, and else of none
+abbrev pub event_kind : List ℕ → List ℕ → TriggerKind
+event_kind kind word = option_map_or Event (among event_words word) (Never kind)
+
+-- when a trigger is looked at, by its folded type
+abbrev pub kind_of : WrittenTrigger → TriggerKind
+kind_of written =
+    let word = folded written.kind in
+    unwrap_or (among (kind_words (timer_event written.event_name)) word) (event_kind written.kind word)
+
+-- a trigger is a group
+abbrev pub is_group : WrittenTrigger → Bool
+is_group written = bytes_eq (folded written.kind) (codes "triggergroup")
+
+-- a kind is that of groups
+abbrev pub is_group_kind : TriggerKind → Bool
+is_group_kind (Event name) = false
+is_group_kind Custom = false
+is_group_kind Group = true
+is_group_kind (Never kind) = false
+
+-- a parameter is the list of a group's members
+abbrev pub is_member_list : WrittenParam → Bool
+is_member_list param = is_list (out-WrittenParam param).kind && has_key (codes "triggerIds") param
+
+-- the parameters that name the members of a group: the first list of members has them
+abbrev pub member_params : WrittenTrigger → List WrittenParam
+member_params written = if is_group written then option_map_or (λ param. (out-WrittenParam param).list) (find is_member_list written.params) [] else []
+
+-- the numbers of a group's members
+abbrev pub member_ids : WrittenTrigger → List (List ℕ)
+member_ids written = values_of (member_params written)

@@ -1,0 +1,103 @@
+ghost use Rattle.std.specs.Prelude.{◌≡◌, ◌↔◌, ◌<◌, ◌^◌, map, IsTrue, IfOk};
+ghost use Rattle.export_model.specs.Sound.{HasSmallLists};
+ghost use Rattle.export_numbers.specs.Templates.{own_type, gallery_type};
+ghost use Rattle.export_numbers.specs.Container.{HasFewEntries, public_id_of, container_by, container_of};
+
+use crate::built_ins::built_ins_of;
+use crate::known::{Known, known_of};
+use crate::name_refs::{TypeTexts, name_refs, type_texts};
+use crate::references::references_of;
+use crate::tags::tags_of;
+use crate::templates::templates_of;
+use crate::triggers::triggers_of;
+use crate::variables::variables_of;
+use export_entries::{WrittenContainer, WrittenEntries};
+use export_model::Container;
+use gtm_base::{OutOfMemory, Text};
+use std::alloc::Global;
+
+/// The container that the entries of an export stand for, in which each name is a number. A name that nothing has stands for nothing, and a template has no field yet.
+///
+/// Fails where memory is wanting, and where a list has 2^32 entries or more: no memory holds so many.
+pub fn container_of(alloc: Global, written: &WrittenEntries) -> Result<Container, OutOfMemory>
+    ensures made { IfOk result (λ made. made ≡ container_of written.now) }
+    ensures small { IfOk result HasSmallLists }
+{
+    if !has_few_entries(written) {
+        return Err(OutOfMemory);
+    }
+    let types = type_texts(alloc, &written.templates)?;
+    container_with(alloc, &types, written)
+}
+
+// The container of entries whose templates have these types.
+fn container_with(
+    alloc: Global,
+    types: &TypeTexts,
+    written: &WrittenEntries,
+) -> Result<Container, OutOfMemory>
+    requires few { HasFewEntries written.now }
+    requires own { types.now.own ≡ map own_type written.now.templates }
+    requires gallery { types.now.gallery ≡ map gallery_type written.now.templates }
+    ensures { IfOk result (λ made. made ≡ container_of written.now) }
+{
+    let refs = name_refs(alloc, types, written)?;
+    let known = known_of(alloc, &refs)?;
+    container_by(alloc, &known, written)
+}
+
+// The container of entries whose names become numbers by these lists.
+fn container_by(
+    alloc: Global,
+    known: &Known,
+    written: &WrittenEntries,
+) -> Result<Container, OutOfMemory>
+    ensures { IfOk result (λ made. made ≡ container_by known.now written.now) }
+{
+    let public_id = public_id_of(alloc, &written.container)?;
+    let version_id = written.version_id.copy(alloc)?;
+    let tags = tags_of(alloc, known, &written.tags)?;
+    let triggers = triggers_of(alloc, known, &written.triggers)?;
+    let variables = variables_of(alloc, known, &written.variables)?;
+    let built_ins = built_ins_of(alloc, &written.built_ins)?;
+    let templates = templates_of(alloc, &written.templates)?;
+    let references = references_of(alloc, &known.triggers, &written.tags, &written.triggers)?;
+    Ok(Container {
+        public_id,
+        version_id,
+        tags,
+        triggers,
+        variables,
+        built_ins,
+        templates,
+        references,
+    })
+}
+
+// The public name of a container, empty where the export says nothing of it.
+fn public_id_of(alloc: Global, container: &Option<WrittenContainer>) -> Result<Text, OutOfMemory>
+    ensures { IfOk result (λ made. made ≡ public_id_of container.now) }
+{
+    match container {
+        Some(container) => container.public_id.copy(alloc),
+        None => Ok(Text::new(alloc)),
+    }
+}
+
+// Whether each list is short enough that each place has a number of 32 bits.
+fn has_few_entries(written: &WrittenEntries) -> bool
+    ensures { IsTrue result ↔ HasFewEntries written.now }
+{
+    is_few(written.tags.len())
+        && is_few(written.triggers.len())
+        && is_few(written.variables.len())
+        && is_few(written.built_ins.len())
+        && is_few(written.templates.len())
+}
+
+// Whether a number of entries is below 2^32.
+fn is_few(count: usize) -> bool
+    ensures { IsTrue result ↔ (count < 2 ^ 32) }
+{
+    count < 4_294_967_296
+}

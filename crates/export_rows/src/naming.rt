@@ -1,0 +1,131 @@
+use crate::judging::with_version;
+use export_model::{NameRef, ParamValue, Piece, Pieces};
+use export_params::{Names, params_of, pieces_of};
+use export_reader::read_written;
+use gtm_base::Text;
+use std::test::Fail;
+
+// A piece that is to be.
+enum Wanted {
+    Is(&'static str),
+    Names(NameRef),
+}
+
+// A text, and its pieces where the variables are `Value` and `Event`, and the built-in variables `Event` and `Page URL`.
+struct Row {
+    text: &'static str,
+    pieces: &'static [Wanted],
+}
+
+const ROWS: &[Row] = &[
+    Row {
+        text: "",
+        pieces: &[],
+    },
+    Row {
+        text: "buy {{Value}}!",
+        pieces: &[
+            Wanted::Is("buy "),
+            Wanted::Names(NameRef::Variable(0)),
+            Wanted::Is("!"),
+        ],
+    },
+    Row {
+        text: "{{Event}}{{Page URL}}",
+        pieces: &[
+            Wanted::Names(NameRef::Variable(1)),
+            Wanted::Names(NameRef::BuiltIn(1)),
+        ],
+    },
+    Row {
+        text: "{{_event}} {{value}}",
+        pieces: &[
+            Wanted::Names(NameRef::EventName),
+            Wanted::Is(" "),
+            Wanted::Names(NameRef::Nothing),
+        ],
+    },
+    Row {
+        text: "}} {{Value}",
+        pieces: &[Wanted::Is("}} {{Value}")],
+    },
+];
+
+#[test]
+fn names_in_texts(rt: HostRuntime) -> Result<(), Fail> {
+    let alloc = rt.alloc();
+    let value = Text::from_str(alloc, "Value")?;
+    let event = Text::from_str(alloc, "Event")?;
+    let page = Text::from_str(alloc, "Page URL")?;
+    let variables = [&value, &event];
+    let built_ins = [&event, &page];
+    let names = Names::of(alloc, &variables, &built_ins)?;
+    for row in ROWS {
+        let pieces = pieces_of(alloc, &names, row.text)?;
+        assert!(rt; are_pieces(&pieces, row.pieces), "{}", row.text);
+    }
+    Ok(())
+}
+
+// Whether they are these pieces, in their order.
+fn are_pieces(pieces: &Pieces, wanted: &[Wanted]) -> bool {
+    for (piece, want) in pieces.as_slice().iter().zip(wanted) {
+        let same = match (piece, want) {
+            (Piece::Literal(text), Wanted::Is(word)) => text.is(word),
+            (Piece::Name(name), Wanted::Names(other)) => name == other,
+            _ => false,
+        };
+        if !same {
+            return false;
+        }
+    }
+    pieces.len() == wanted.len()
+}
+
+// A tag with parameters of each kind.
+const KINDS: &[u8] =
+    br#""tag":[{"tagId":"1","name":"A","type":"html","parameter":[{"type":"INTEGER","key":"n","value":"-7"},{"type":"INTEGER","value":"7.0"},{"type":"BOOLEAN","value":"true"},{"type":"BOOLEAN","value":"True"},{"type":"LIST","list":[{"type":"INTEGER","value":"1"},{"type":"INTEGER","value":"2"}]},{"type":"MAP","map":[{"type":"BOOLEAN","key":"k","value":"false"}]},{"type":"TRIGGER_REFERENCE","value":"{{A}}"}]}]"#;
+
+#[test]
+fn parameters_of_each_kind(rt: HostRuntime) -> Result<(), Fail> {
+    let alloc = rt.alloc();
+    let written = read_written(alloc, &with_version(alloc, KINDS)?)?;
+    let tag = written.tags.get(0).ok_or("no tag")?;
+    let names = Names::of(alloc, &[], &[])?;
+    let params = params_of(alloc, &names, &tag.params)?;
+    let [number, broken, truth, word, list, map, reference] = params.as_slice() else {
+        return Err("other than seven parameters".into());
+    };
+    assert_eq!(rt; number.key.as_str(), "n", "the key");
+    assert!(rt;
+        matches!(number.value, ParamValue::Integer(-7)),
+        "a whole number"
+    );
+    assert!(rt; is_text(&broken.value, "7.0"), "no whole number");
+    assert!(rt; matches!(truth.value, ParamValue::Bool(true)), "a truth");
+    assert!(rt; is_text(&word.value, "True"), "no truth");
+    assert!(rt;
+        matches!(&list.value, ParamValue::List(items) if items.len() == 2),
+        "a list"
+    );
+    assert!(rt;
+        matches!(&map.value, ParamValue::Map(members) if members.len() == 1),
+        "a map"
+    );
+    assert!(rt;
+        matches!(&reference.value, ParamValue::Reference(id) if id.is("{{A}}")),
+        "a reference"
+    );
+    Ok(())
+}
+
+// Whether it is a text without names, and this one.
+fn is_text(value: &ParamValue, wanted: &str) -> bool {
+    match value {
+        ParamValue::Template(pieces) => match pieces.get(0) {
+            Some(Piece::Literal(text)) => pieces.len() == 1 && text.is(wanted),
+            _ => false,
+        },
+        _ => false,
+    }
+}
