@@ -1,2 +1,3 @@
+pub mod Container
 pub mod FirstBroken
 pub mod Rules

@@ -3,15 +3,13 @@ use crate::realistic::EXPORT;
 use export_model::{
     FiringOption, NameRef, Op, ParamValue, Piece, TagKind, TriggerKind, TriggerRef, VariableKind,
 };
-use export_numbers::container_of;
-use export_reader::read_written;
+use export_reader::read_export;
 use std::test::Fail;
 
 // The first tag is of a type of Google's, and fires on every page. The second is the template's, and fires on the trigger.
 #[test]
 fn the_tags_of_a_container(rt: HostRuntime) -> Result<(), Fail> {
-    let written = read_written(rt.alloc(), EXPORT)?;
-    let container = container_of(rt.alloc(), &written)?;
+    let container = read_export(rt.alloc(), EXPORT)?.container;
     let [event, pixel] = container.tags.as_slice() else {
         return Err("other than two tags".into());
     };
@@ -39,8 +37,7 @@ fn the_tags_of_a_container(rt: HostRuntime) -> Result<(), Fail> {
 // The trigger holds at every event whose name is `purchase`.
 #[test]
 fn the_trigger_of_a_container(rt: HostRuntime) -> Result<(), Fail> {
-    let written = read_written(rt.alloc(), EXPORT)?;
-    let container = container_of(rt.alloc(), &written)?;
+    let container = read_export(rt.alloc(), EXPORT)?.container;
     let trigger = container.triggers.get(0).ok_or("no trigger")?;
     assert!(rt; matches!(trigger.kind, TriggerKind::Custom), "every event");
     assert!(rt; trigger.members.is_empty(), "no members");
@@ -63,8 +60,7 @@ fn the_trigger_of_a_container(rt: HostRuntime) -> Result<(), Fail> {
 // The variable is of the data layer, and the tags' names are those of the variable and of the built-in variable.
 #[test]
 fn the_names_of_a_container(rt: HostRuntime) -> Result<(), Fail> {
-    let written = read_written(rt.alloc(), EXPORT)?;
-    let container = container_of(rt.alloc(), &written)?;
+    let container = read_export(rt.alloc(), EXPORT)?.container;
     let variable = container.variables.get(0).ok_or("no variable")?;
     assert!(rt;
         matches!(variable.kind, VariableKind::Layer),
