@@ -1,0 +1,5 @@
+pub mod Closures
+pub mod Leading
+pub mod Levelling
+pub mod Marking
+pub mod Searching

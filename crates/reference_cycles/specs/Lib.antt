@@ -1,0 +1,4 @@
+pub mod Closure
+pub mod Graph
+pub mod Levels
+pub mod Reached
