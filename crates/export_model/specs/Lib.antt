@@ -1,3 +1,4 @@
+pub mod Graphs
 pub mod Names
 pub mod Params
 pub mod Sound

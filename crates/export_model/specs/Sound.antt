@@ -1,5 +1,5 @@
 -- What holds of a container that was read.
-use Rattle.std.specs.Prelude.{◌≡◌, ◌<◌, ◌^◌, ℕ, zero, suc, length, true, false, All, Contains, IfSome, slice_get, IsSomeAnd}
+use Rattle.std.specs.Prelude.{◌≡◌, ◌<◌, ◌^◌, length, true, false, All, IfSome, slice_get, IsSomeAnd}
 use Rattle.export_model.specs.declared.container.Container.{Container}
 use Rattle.export_model.specs.declared.params.NameRef.{NameRef}
 use Rattle.export_model.specs.declared.params.NameRef.TheVariants.{Variable, BuiltIn, EventName, Nothing}
@@ -13,6 +13,8 @@ use Rattle.export_model.specs.declared.triggers.TriggerRef.TheVariants.{Own, All
 use Rattle.export_model.specs.declared.variables.Variable.{Variable as VariableEntry}
 use Rattle.export_model.specs.declared.variables.VariableKind.{VariableKind}
 use Rattle.export_model.specs.declared.variables.VariableKind.TheVariants as variable_kind
+use Rattle.reference_cycles.specs.Graph.{HasNoCycle}
+use Rattle.export_model.specs.Graphs.{variable_graph, group_graph}
 use Rattle.export_model.specs.Names.{names_of_tag, names_of_trigger, names_of_variable}
 
 -- a name stands for a variable or a built-in variable that is there, or for none
@@ -34,14 +36,14 @@ IsTriggerIn c Never = Unit {0}
 abbrev pub IsSequenceIn : Container → Sequence → Type 0
 IsSequenceIn c sequence = sequence.tag < length c.tags
 
--- a tag's template is there, and is one of tags
+-- a tag's template is there
 abbrev pub IsTagKindIn : Container → TagKind → Type 0
-IsTagKindIn c (tag_kind.Template at) = IsSomeAnd (slice_get c.templates at) (λ template. template.is_tag ≡ true)
+IsTagKindIn c (tag_kind.Template at) = at < length c.templates
 IsTagKindIn c (tag_kind.Opaque word) = Unit {0}
 
--- a variable's template is there, and is none of tags
+-- a variable's template is there
 abbrev pub IsVariableKindIn : Container → VariableKind → Type 0
-IsVariableKindIn c (variable_kind.Template at) = IsSomeAnd (slice_get c.templates at) (λ template. template.is_tag ≡ false)
+IsVariableKindIn c (variable_kind.Template at) = at < length c.templates
 IsVariableKindIn c _ = Unit {0}
 
 -- what a tag names is there
@@ -63,22 +65,26 @@ pub record IsVariableIn (c : Container) (variable : VariableEntry) : Type 0 wher
   pub kind : IsVariableKindIn c variable.kind
   pub names : All (IsNameIn c) (names_of_variable variable)
 
--- a chain of so many steps leads from one place to another
-abbrev pub Chain : (ℕ → ℕ → Type 0) → ℕ → ℕ → ℕ → Type 0
-Chain refers zero from until = from ≡ until
-Chain refers (suc steps) from until = (next : ℕ) × refers from next × Chain refers steps next until
+-- every number is below the length of the list that it names
+pub record InRange (c : Container) : Type 0 where
+  pub tags : All (IsTagIn c) c.tags
+  pub triggers : All (IsTriggerEntryIn c) c.triggers
+  pub variables : All (IsVariableIn c) c.variables
 
--- nothing leads back to itself
-abbrev pub HasNoCycle : (ℕ → ℕ → Type 0) → Type 0
-HasNoCycle refers = (steps place : ℕ) → Chain refers (suc steps) place place → ⊥
+-- a tag's template is one of tags
+abbrev pub FitsTag : Container → TagKind → Type 0
+FitsTag c (tag_kind.Template at) = IsSomeAnd (slice_get c.templates at) (λ template. template.is_tag ≡ true)
+FitsTag c (tag_kind.Opaque word) = Unit {0}
 
--- a variable refers to another one in its parameters or its format
-abbrev pub VariableRefers : Container → ℕ → ℕ → Type 0
-VariableRefers c from to = IsSomeAnd (slice_get c.variables from) (λ variable. Contains (names_of_variable variable) (Variable to))
+-- a variable's template is none of tags
+abbrev pub FitsVariable : Container → VariableKind → Type 0
+FitsVariable c (variable_kind.Template at) = IsSomeAnd (slice_get c.templates at) (λ template. template.is_tag ≡ false)
+FitsVariable c _ = Unit {0}
 
--- a trigger has another one as a member of its group
-abbrev pub GroupRefers : Container → ℕ → ℕ → Type 0
-GroupRefers c from to = IsSomeAnd (slice_get c.triggers from) (λ trigger. Contains trigger.members (Own to))
+-- templates are used as what they are
+pub record FitsTemplates (c : Container) : Type 0 where
+  pub tags : All (λ tag. FitsTag c tag.kind) c.tags
+  pub variables : All (λ variable. FitsVariable c variable.kind) c.variables
 
 -- each list has fewer than 2^32 entries
 pub record HasSmallLists (c : Container) : Type 0 where
@@ -88,12 +94,14 @@ pub record HasSmallLists (c : Container) : Type 0 where
   pub built_ins : length c.built_ins < 2 ^ 32
   pub templates : length c.templates < 2 ^ 32
 
--- every number is below the length of the list that it names, templates are used as what they are, and nothing refers to
--- itself
-pub record Sound (c : Container) : Type 0 where
+-- lists are short, every number is in range, and nothing refers to itself
+pub record IsConsistent (c : Container) : Type 0 where
   pub small : HasSmallLists c
-  pub tags : All (IsTagIn c) c.tags
-  pub triggers : All (IsTriggerEntryIn c) c.triggers
-  pub variables : All (IsVariableIn c) c.variables
-  pub no_variable_cycle : HasNoCycle (VariableRefers c)
-  pub no_group_cycle : HasNoCycle (GroupRefers c)
+  pub in_range : InRange c
+  pub no_variable_cycle : HasNoCycle (variable_graph c)
+  pub no_group_cycle : HasNoCycle (group_graph c)
+
+-- the same, and templates are used as what they are
+pub record Sound (c : Container) : Type 0 where
+  pub consistent : IsConsistent c
+  pub fits : FitsTemplates c

@@ -8,7 +8,8 @@ use Rattle.export_fields.specs.Words.{among, folded}
 use Rattle.export_entries.specs.declared.triggers.WrittenTrigger.{WrittenTrigger}
 use Rattle.export_model.specs.declared.triggers.TriggerKind.{TriggerKind}
 use Rattle.export_model.specs.declared.triggers.TriggerKind.TheVariants.{Event, Custom, Group, Never}
-use Rattle.export_numbers.specs.Triggers.{event_words, event_kind, timer_event, kind_of, is_group, is_group_kind}
+use Rattle.export_numbers.specs.Triggers.{event_words, event_kind, timer_event, kind_of, is_group_kind}
+use Rattle.export_names.specs.Members.{is_group}
 
 -- a word is one only
 one_word : (word some other : List ℕ) → bytes_eq some other ≡ false → bytes_eq word some ≡ true → bytes_eq word other ≡ false

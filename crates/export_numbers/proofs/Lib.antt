@@ -1,4 +1,5 @@
 pub mod Firsts
 pub mod Groups
 pub mod Told
-pub mod Types
+pub mod EntriesInRange
+pub mod Ranges

@@ -14,7 +14,7 @@ use Rattle.export_model.specs.declared.params.ParamValue.{roll-ParamValue}
 use Rattle.export_model.specs.declared.params.ParamValue.TheOpen.{ParamValue-F}
 use Rattle.export_params.specs.Names.{NameLists}
 use Rattle.export_params.specs.Params.{param_of}
-use Rattle.export_numbers.specs.Values.{value_of, first_with}
+use Rattle.export_names.specs.Values.{value_of, first_with}
 
 -- the comparisons, by their words
 abbrev pub op_words : List (List ℕ × Op)

@@ -1,24 +1,16 @@
 -- The container that the entries of an export stand for.
-use Rattle.std.specs.Prelude.{◌<◌, ◌^◌, ℕ, List, [], Option, length, map}
+use Rattle.std.specs.Prelude.{ℕ, List, [], Option, map}
 use Rattle.std.specs.Option.{option_map_or}
 use Rattle.export_entries.specs.declared.entries.WrittenContainer.{WrittenContainer}
 use Rattle.export_entries.specs.declared.entries.WrittenEntries.{WrittenEntries}
 use Rattle.export_model.specs.declared.container.Container.{Container}
 use Rattle.export_numbers.specs.BuiltIns.{built_in_of}
-use Rattle.export_numbers.specs.Lists.{Lists, lists_of}
+use Rattle.export_names.specs.Lists.{Lists, lists_of}
 use Rattle.export_numbers.specs.References.{references_of}
 use Rattle.export_numbers.specs.Tags.{tag_of}
 use Rattle.export_numbers.specs.Templates.{template_of}
 use Rattle.export_numbers.specs.TriggerEntries.{trigger_of}
 use Rattle.export_numbers.specs.Variables.{variable_of}
-
--- few enough entries of each kind that each place has a number of 32 bits
-pub record HasFewEntries (written : WrittenEntries) : Type 0 where
-  pub tags : length written.tags < 2 ^ 32
-  pub triggers : length written.triggers < 2 ^ 32
-  pub variables : length written.variables < 2 ^ 32
-  pub built_ins : length written.built_ins < 2 ^ 32
-  pub templates : length written.templates < 2 ^ 32
 
 -- the public name of a container, empty where the export says nothing of it
 abbrev pub public_id_of : Option WrittenContainer → List ℕ

@@ -1,11 +1,9 @@
 pub mod BuiltIns
 pub mod Conditions
 pub mod Container
-pub mod Lists
 pub mod References
 pub mod Tags
 pub mod Templates
 pub mod TriggerEntries
 pub mod Triggers
-pub mod Values
 pub mod Variables

@@ -1,39 +1,12 @@
--- What the numbers of triggers stand for, and those that never hold.
-use Rattle.std.specs.Prelude.{ℕ, suc, List, [], ◌∷◌, ◌++◌, Bool, true, false, Option, Some, None, ◌==◌, filter, map, if◌then◌else◌, unwrap_or, codes}
+-- The numbers of triggers that never hold.
+use Rattle.std.specs.Prelude.{ℕ, suc, List, [], ◌∷◌, ◌++◌, Bool, false, Option, Some, None, ◌==◌, filter, if◌then◌else◌}
 use Rattle.std.specs.List.{flat_map, list_any}
-use Rattle.std.specs.Option.{option_map_or}
 use Rattle.std.specs.Str.{bytes_eq}
 use Rattle.text_places.specs.Places.{place_of}
-use Rattle.export_fields.specs.Words.{among}
 use Rattle.export_entries.specs.declared.tags.WrittenTag.{WrittenTag}
 use Rattle.export_entries.specs.declared.triggers.WrittenTrigger.{WrittenTrigger}
-use Rattle.export_model.specs.declared.triggers.TriggerRef.{TriggerRef}
-use Rattle.export_model.specs.declared.triggers.TriggerRef.TheVariants.{Own, AllPages, Init, ConsentInit, Never}
-use Rattle.export_numbers.specs.Triggers.{member_ids}
-
--- the built-in triggers that hold, by their numbers
-abbrev pub built_in_triggers : List (List ℕ × TriggerRef)
-built_in_triggers = (codes "2147479553", AllPages) ∷ (codes "2147479573", Init) ∷ (codes "2147479572", ConsentInit) ∷ []
-
--- the built-in trigger with a number: each other one never holds
-abbrev pub built_in_trigger : List ℕ → TriggerRef
-built_in_trigger id = unwrap_or (among built_in_triggers id) Never
-
--- what a number stands for: the first trigger of the container's own that has it, else a built-in one
-abbrev pub trigger_ref : List (List ℕ) → List ℕ → TriggerRef
-trigger_ref ids id = option_map_or Own (place_of id ids) (built_in_trigger id)
-
--- what numbers stand for, in order
-abbrev pub trigger_refs : List (List ℕ) → List (List ℕ) → List TriggerRef
-trigger_refs ids texts = map (trigger_ref ids) texts
-
--- a reference never holds
-abbrev pub is_never : TriggerRef → Bool
-is_never (Own at) = false
-is_never AllPages = false
-is_never Init = false
-is_never ConsentInit = false
-is_never Never = true
+use Rattle.export_names.specs.Members.{member_ids}
+use Rattle.export_names.specs.TriggerRefs.{trigger_ref, is_never}
 
 -- those of the numbers that never hold, in order
 abbrev pub never_ids : List (List ℕ) → List (List ℕ) → List (List ℕ)

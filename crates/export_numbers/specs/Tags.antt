@@ -19,10 +19,10 @@ use Rattle.export_model.specs.declared.tags.Tag.{Tag}
 use Rattle.export_model.specs.declared.tags.TagKind.{TagKind}
 use Rattle.export_model.specs.declared.tags.TagKind.TheVariants.{Template, Opaque}
 use Rattle.export_params.specs.Params.{params_of}
-use Rattle.export_numbers.specs.Lists.{Lists}
-use Rattle.export_numbers.specs.References.{trigger_refs}
-use Rattle.export_numbers.specs.Templates.{TypeLists, template_at}
-use Rattle.export_numbers.specs.Values.{value_of, values_of}
+use Rattle.export_names.specs.Lists.{Lists}
+use Rattle.export_names.specs.TriggerRefs.{trigger_refs}
+use Rattle.export_names.specs.Types.{TypeLists, template_at}
+use Rattle.export_names.specs.Values.{value_of, values_of}
 
 -- what a tag of this type runs: the first template that the type uses, else none that is known
 abbrev pub kind_of : TypeLists → List ℕ → TagKind

@@ -2,9 +2,10 @@
 use Rattle.export_entries.specs.declared.triggers.WrittenTrigger.{WrittenTrigger}
 use Rattle.export_model.specs.declared.triggers.Trigger.{Trigger}
 use Rattle.export_numbers.specs.Conditions.{conditions_of}
-use Rattle.export_numbers.specs.Lists.{Lists}
-use Rattle.export_numbers.specs.References.{trigger_refs}
-use Rattle.export_numbers.specs.Triggers.{kind_of, member_ids}
+use Rattle.export_names.specs.Lists.{Lists}
+use Rattle.export_names.specs.TriggerRefs.{trigger_refs}
+use Rattle.export_numbers.specs.Triggers.{kind_of}
+use Rattle.export_names.specs.Members.{member_ids}
 
 -- the trigger that a written one stands for
 abbrev pub trigger_of : Lists → WrittenTrigger → Trigger

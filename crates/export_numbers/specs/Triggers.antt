@@ -1,5 +1,5 @@
 -- When the triggers of an export are looked at, and the members of groups.
-use Rattle.std.specs.Prelude.{ℕ, List, [], ◌∷◌, Bool, true, false, Option, Some, None, ◌&&◌, not, find, if◌then◌else◌, unwrap_or, codes}
+use Rattle.std.specs.Prelude.{ℕ, List, [], ◌∷◌, Bool, true, false, Option, Some, None, ◌&&◌, not, if◌then◌else◌, unwrap_or, codes}
 use Rattle.std.specs.Option.{option_map_or}
 use Rattle.std.specs.Str.{bytes_eq}
 use Rattle.export_fields.specs.Words.{among, folded}
@@ -7,7 +7,7 @@ use Rattle.export_fields.specs.declared.params.WrittenParam.{WrittenParam, out-W
 use Rattle.export_entries.specs.declared.triggers.WrittenTrigger.{WrittenTrigger}
 use Rattle.export_model.specs.declared.triggers.TriggerKind.{TriggerKind}
 use Rattle.export_model.specs.declared.triggers.TriggerKind.TheVariants.{Event, Custom, Group, Never}
-use Rattle.export_numbers.specs.Values.{value_of, values_of, has_key, is_template, is_list}
+use Rattle.export_names.specs.Values.{value_of, is_template}
 
 -- the types of triggers that hold at an event of their own, with its name
 abbrev pub event_words : List (List ℕ × List ℕ)
@@ -50,25 +50,9 @@ kind_of written =
     let word = folded written.kind in
     unwrap_or (among (kind_words (timer_event written.event_name)) word) (event_kind written.kind word)
 
--- a trigger is a group
-abbrev pub is_group : WrittenTrigger → Bool
-is_group written = bytes_eq (folded written.kind) (codes "triggergroup")
-
 -- a kind is that of groups
 abbrev pub is_group_kind : TriggerKind → Bool
 is_group_kind (Event name) = false
 is_group_kind Custom = false
 is_group_kind Group = true
 is_group_kind (Never kind) = false
-
--- a parameter is the list of a group's members
-abbrev pub is_member_list : WrittenParam → Bool
-is_member_list param = is_list (out-WrittenParam param).kind && has_key (codes "triggerIds") param
-
--- the parameters that name the members of a group: the first list of members has them
-abbrev pub member_params : WrittenTrigger → List WrittenParam
-member_params written = if is_group written then option_map_or (λ param. (out-WrittenParam param).list) (find is_member_list written.params) [] else []
-
--- the numbers of a group's members
-abbrev pub member_ids : WrittenTrigger → List (List ℕ)
-member_ids written = values_of (member_params written)

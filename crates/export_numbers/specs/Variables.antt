@@ -12,8 +12,8 @@ use Rattle.export_model.specs.declared.variables.VariableKind.{VariableKind}
 use Rattle.export_model.specs.declared.variables.VariableKind.TheVariants.{Layer, Constant, Cookie, Global, Url, Referrer, EventName, Lookup, RegexTable, Template, Unknown}
 use Rattle.export_params.specs.Names.{NameLists}
 use Rattle.export_params.specs.Params.{param_of, params_of}
-use Rattle.export_numbers.specs.Lists.{Lists}
-use Rattle.export_numbers.specs.Templates.{TypeLists, template_at}
+use Rattle.export_names.specs.Lists.{Lists}
+use Rattle.export_names.specs.Types.{TypeLists, template_at}
 
 -- the kinds of variables that are built, by their types
 abbrev pub kind_words : List (List ℕ × VariableKind)

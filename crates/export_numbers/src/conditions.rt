@@ -3,10 +3,10 @@ ghost use Rattle.export_fields.specs.Words.{among};
 ghost use Rattle.gtm_base.specs.Ascii.{is_all_ascii};
 ghost use Rattle.export_numbers.specs.Conditions.{op_words, op_of, empty_param, side_of, is_on, condition_of, conditions_of};
 
-use crate::values::{first_with, text_of};
 use export_entries::{WrittenCondition, WrittenConditions, WrittenTrigger};
 use export_fields::{WrittenParams, folded};
 use export_model::{Condition, Conditions, Op, Param, ParamValue, Pieces};
+use export_names::{first_with, text_of};
 use export_params::{Names, param_of};
 use gtm_base::{OutOfMemory, Text};
 use std::alloc::Global;

@@ -1,11 +1,10 @@
 ghost use Rattle.std.specs.Prelude.{◌≡◌, ◌↔◌, ◌<◌, ◌^◌, map, IsTrue, IfOk};
-ghost use Rattle.export_model.specs.Sound.{HasSmallLists};
-ghost use Rattle.export_numbers.specs.Templates.{own_type, gallery_type};
-ghost use Rattle.export_numbers.specs.Container.{HasFewEntries, public_id_of, container_by, container_of};
+ghost use Rattle.export_model.specs.Sound.{HasSmallLists, InRange};
+ghost use Rattle.export_names.specs.Types.{own_type, gallery_type};
+ghost use Rattle.export_numbers.specs.Container.{public_id_of, container_by, container_of};
+ghost use Rattle.export_names.specs.Lists.{HasFewEntries};
 
 use crate::built_ins::built_ins_of;
-use crate::known::{Known, known_of};
-use crate::name_refs::{TypeTexts, name_refs, type_texts};
 use crate::references::references_of;
 use crate::tags::tags_of;
 use crate::templates::templates_of;
@@ -13,6 +12,7 @@ use crate::triggers::triggers_of;
 use crate::variables::variables_of;
 use export_entries::{WrittenContainer, WrittenEntries};
 use export_model::Container;
+use export_names::{Known, TypeTexts, known_of, name_refs, type_texts};
 use gtm_base::{OutOfMemory, Text};
 use std::alloc::Global;
 
@@ -22,6 +22,7 @@ use std::alloc::Global;
 pub fn container_of(alloc: Global, written: &WrittenEntries) -> Result<Container, OutOfMemory>
     ensures made { IfOk result (λ made. made ≡ container_of written.now) }
     ensures small { IfOk result HasSmallLists }
+    ensures in_range { IfOk result InRange }
 {
     if !has_few_entries(written) {
         return Err(OutOfMemory);

@@ -1,14 +1,13 @@
 ghost use Rattle.std.specs.Prelude.{◌≡◌, ℕ, List, []};
 ghost use Rattle.export_entries.specs.declared.templates.WrittenTemplate.{WrittenTemplate};
 ghost use Rattle.export_entries.specs.declared.triggers.WrittenTrigger.{WrittenTrigger};
+ghost use Rattle.export_model.specs.Sound.{InRange};
+ghost use Rattle.export_entries.specs.declared.entries.WrittenEntries.{WrittenEntries};
+ghost use Rattle.export_numbers.specs.Container.{container_of};
 ghost use Rattle.export_numbers.specs.References.{each_once, told_behind};
-ghost use Rattle.export_numbers.specs.Templates.{types_of, template_at, first_using};
-ghost use Rattle.export_numbers.specs.Triggers.{kind_of, is_group, is_group_kind};
-
-/// A law, with nothing to call: a type finds the first template that has it among its names.
-pub fn a_type_finds_the_first_template()
-    ensures { (kind : List ℕ) (templates : List WrittenTemplate) → template_at (types_of templates) kind ≡ first_using kind templates }
-{}
+ghost use Rattle.export_names.specs.Types.{types_of, template_at, first_using};
+ghost use Rattle.export_numbers.specs.Triggers.{kind_of, is_group_kind};
+ghost use Rattle.export_names.specs.Members.{is_group};
 
 /// A law, with nothing to call: texts told each once come one behind the other, each unless it was told before.
 pub fn each_text_is_told_once()
@@ -18,4 +17,9 @@ pub fn each_text_is_told_once()
 /// A law, with nothing to call: a trigger has the members of a group exactly where its kind is that of groups.
 pub fn a_group_is_known_by_its_kind()
     ensures { (written : WrittenTrigger) → is_group written ≡ is_group_kind (kind_of written) }
+{}
+
+/// A law, with nothing to call: in the container of any entries each number is a place in the list that it names.
+pub fn every_number_is_in_range()
+    ensures { (written : WrittenEntries) → InRange (container_of written) }
 {}

@@ -1,67 +1,15 @@
 ghost use Rattle.std.specs.Prelude.{◌≡◌, ◌++◌, map, IfOk, OnOk, filter};
 ghost use Rattle.text_places.specs.Places.{place_of};
-ghost use Rattle.export_numbers.specs.Values.{values_of};
-ghost use Rattle.export_numbers.specs.References.{built_in_trigger, trigger_ref, trigger_refs, is_never, never_ids, never_of_tags, never_of_groups, is_place, each_once, references_of};
+ghost use Rattle.export_names.specs.Values.{values_of};
+ghost use Rattle.export_numbers.specs.References.{never_ids, never_of_tags, never_of_groups, is_place, each_once, references_of};
+ghost use Rattle.export_names.specs.TriggerRefs.{trigger_ref, is_never};
 
-use crate::members::member_params;
-use crate::numbers::Numbers;
 use export_entries::{WrittenTags, WrittenTriggers};
 use export_fields::WrittenParam;
-use export_model::{TriggerRef, TriggerRefs};
+use export_names::{Numbers, is_never, member_params, refs, trigger_ref};
 use gtm_base::{OutOfMemory, Text, Texts};
 use std::alloc::Global;
 use text_places::Places;
-
-/// What the numbers of triggers stand for, in order. Fails where memory is wanting.
-pub fn trigger_refs(alloc: Global, ids: &Numbers, texts: &Texts) -> Result<TriggerRefs, OutOfMemory>
-    ensures { IfOk result (λ made. made ≡ trigger_refs ids.now texts.now) }
-{
-    let mut made = TriggerRefs::new(alloc);
-    for id in texts.as_slice() {
-        made.push(trigger_ref(ids, id))?;
-    }
-    Ok(made)
-}
-
-/// What the numbers in the texts of parameters stand for, in order. Fails where memory is wanting.
-pub fn param_refs(
-    alloc: Global,
-    ids: &Numbers,
-    params: &[WrittenParam],
-) -> Result<TriggerRefs, OutOfMemory>
-    ensures { IfOk result (λ made. made ≡ trigger_refs ids.now (values_of params.now)) }
-{
-    let mut made = TriggerRefs::new(alloc);
-    for param in params {
-        made.push(trigger_ref(ids, &param.value))?;
-    }
-    Ok(made)
-}
-
-/// What the number of a trigger stands for: the first trigger of the container's own that has it, else a built-in one.
-pub fn trigger_ref(ids: &Numbers, id: &Text) -> TriggerRef
-    ensures { result ≡ trigger_ref ids.now id.now }
-{
-    match ids.number(id) {
-        Some(at) => TriggerRef::Own(at),
-        None => built_in_trigger(id),
-    }
-}
-
-// The built-in trigger with a number.
-fn built_in_trigger(id: &Text) -> TriggerRef
-    ensures { result ≡ built_in_trigger id.now }
-{
-    if id.is_word("2147479553") {
-        TriggerRef::AllPages
-    } else if id.is_word("2147479573") {
-        TriggerRef::Init
-    } else if id.is_word("2147479572") {
-        TriggerRef::ConsentInit
-    } else {
-        TriggerRef::Never
-    }
-}
 
 /// The numbers that never hold, each once, in the order of the references to them: first those of tags, firing before blocking for each, and then the members of groups. Fails where memory is wanting.
 pub fn references_of(
@@ -141,24 +89,6 @@ fn push_never_members(
         }
     }
     Ok(())
-}
-
-// Whether a reference never holds.
-fn is_never(reference: TriggerRef) -> bool
-    ensures { result ≡ is_never reference }
-{
-    matches!(reference, TriggerRef::Never)
-}
-
-/// References to the texts of a list, in order. Fails where memory is wanting.
-pub fn refs(alloc: Global, texts: &Texts) -> Result<Vec<&Text>, OutOfMemory>
-    ensures { IfOk result (λ made. map (λ text. text.now) made.items ≡ texts.now) }
-{
-    let mut made = Vec::new(alloc);
-    for text in texts.as_slice() {
-        made.push(text)?;
-    }
-    Ok(made)
 }
 
 // Each of the texts once, where it stands first.

@@ -1,12 +1,10 @@
 ghost use Rattle.std.specs.Prelude.{◌≡◌, map, IfOk};
 ghost use Rattle.export_numbers.specs.Tags.{kind_of, tag_of};
 
-use crate::known::Known;
-use crate::references::trigger_refs;
-use crate::templates::TemplateTypes;
 use crate::turns::{consent_of, option_of, priority_of, setup_of, teardown_of};
 use export_entries::{WrittenTag, WrittenTags};
 use export_model::{Tag, TagKind, Tags};
+use export_names::{Known, TemplateTypes, trigger_refs};
 use export_params::params_of;
 use gtm_base::{OutOfMemory, Text};
 use std::alloc::Global;

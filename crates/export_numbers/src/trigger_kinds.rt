@@ -3,10 +3,10 @@ ghost use Rattle.gtm_base.specs.Ascii.{is_all_ascii};
 ghost use Rattle.export_fields.specs.Words.{among};
 ghost use Rattle.export_numbers.specs.Triggers.{event_words, is_filled, timer_event, event_kind, kind_of};
 
-use crate::values::text_of;
 use export_entries::WrittenTrigger;
 use export_fields::{ParamKind, WrittenParam, folded};
 use export_model::TriggerKind;
+use export_names::text_of;
 use gtm_base::{OutOfMemory, Text};
 use std::alloc::Global;
 

@@ -2,12 +2,10 @@ ghost use Rattle.std.specs.Prelude.{◌≡◌, map, IfOk};
 ghost use Rattle.export_numbers.specs.TriggerEntries.{trigger_of};
 
 use crate::conditions::conditions_of;
-use crate::known::Known;
-use crate::members::member_params;
-use crate::references::param_refs;
 use crate::trigger_kinds::kind_of;
 use export_entries::{WrittenTrigger, WrittenTriggers};
 use export_model::{Trigger, Triggers};
+use export_names::{Known, member_params, param_refs};
 use gtm_base::OutOfMemory;
 use std::alloc::Global;
 

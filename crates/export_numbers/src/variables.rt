@@ -3,11 +3,10 @@ ghost use Rattle.export_fields.specs.Words.{among};
 ghost use Rattle.export_params.specs.Params.{param_of};
 ghost use Rattle.export_numbers.specs.Variables.{kind_words, custom_kind, kind_of, is_lower, is_upper, format_of, variable_of};
 
-use crate::known::Known;
-use crate::templates::TemplateTypes;
 use export_entries::{WrittenCase, WrittenFormat, WrittenVariable, WrittenVariables};
 use export_fields::WrittenParam;
 use export_model::{Format, Param, Variable, VariableKind, Variables};
+use export_names::{Known, TemplateTypes};
 use export_params::{Names, param_of, params_of};
 use gtm_base::{OutOfMemory, Text};
 use std::alloc::Global;

@@ -7,3 +7,4 @@ pub mod Splits
 pub mod Twice
 pub mod Unique
 pub mod Wholes
+pub mod LookUps

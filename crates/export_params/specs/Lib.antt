@@ -1,4 +1,5 @@
 pub mod Cut
+pub mod LookedUp
 pub mod Names
 pub mod Params
 pub mod Whole

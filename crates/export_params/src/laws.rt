@@ -1,6 +1,9 @@
-ghost use Rattle.std.specs.Prelude.{◌≡◌, ℕ, List};
+ghost use Rattle.std.specs.Prelude.{◌≡◌, ℕ, List, All};
+ghost use Rattle.export_model.specs.Names.{names_in};
+ghost use Rattle.export_model.specs.Params.{value_of};
 ghost use Rattle.export_fields.specs.declared.params.WrittenParam.{WrittenParam, out-WrittenParam};
 ghost use Rattle.export_params.specs.Cut.{WrittenPiece, cut};
+ghost use Rattle.export_params.specs.LookedUp.{IsLookedUp};
 ghost use Rattle.export_params.specs.Names.{NameLists};
 ghost use Rattle.export_params.specs.Params.{value_with, param_of, params_of};
 ghost use Rattle.export_params.specs.Whole.{IsCut};
@@ -16,4 +19,9 @@ pub fn a_parameter_is_turned_by_its_fields()
     ensures key { (names : NameLists) (written : WrittenParam) → (param_of names written).key ≡ (out-WrittenParam written).key }
     ensures value { (names : NameLists) (written : WrittenParam) →
         (param_of names written).value ≡ value_with names (out-WrittenParam written).kind (out-WrittenParam written).value (params_of names (out-WrittenParam written).list) (params_of names (out-WrittenParam written).map) }
+{}
+
+/// A law, with nothing to call: each name in a parameter of the model, however deep it stands, is what some word stands for.
+pub fn each_name_is_looked_up()
+    ensures { (names : NameLists) (written : WrittenParam) → All (IsLookedUp names) (names_in (value_of (param_of names written).value)) }
 {}

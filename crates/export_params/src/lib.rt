@@ -4,8 +4,9 @@
 //! name of the event, then come the container's variables, then its built-in variables. `param_of` and `params_of` give
 //! exactly the parameter that `specs/` tells, or only memory was wanting.
 //!
-//! Two laws say what this means: `a_text_is_cut_whole` tells the pieces of a text among all lists of pieces, and
-//! `a_parameter_is_turned_by_its_fields` gives a parameter's key and value.
+//! Three laws say what this means: `a_text_is_cut_whole` tells the pieces of a text among all lists of pieces,
+//! `a_parameter_is_turned_by_its_fields` gives a parameter's key and value, and `each_name_is_looked_up` says where the
+//! names in it come from.
 #![tactic(auto)]
 
 mod laws;
@@ -13,7 +14,7 @@ mod names;
 mod params;
 mod pieces;
 
-pub use laws::{a_parameter_is_turned_by_its_fields, a_text_is_cut_whole};
+pub use laws::{a_parameter_is_turned_by_its_fields, a_text_is_cut_whole, each_name_is_looked_up};
 pub use names::{Names, name_ref};
 pub use params::{param_of, params_of};
 pub use pieces::pieces_of;

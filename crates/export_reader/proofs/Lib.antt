@@ -1,2 +1,5 @@
 pub mod Firsts
+pub mod Fits
 pub mod Least
+pub mod Stages
+pub mod Untold

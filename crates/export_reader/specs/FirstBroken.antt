@@ -1,5 +1,5 @@
 -- The first broken rule of an export.
-use Rattle.std.specs.Prelude.{◌≡◌, ℕ, List, [], ◌∷◌, Option, Some, None, option_map, option_and_then, slice_get, Result, Ok, Err}
+use Rattle.std.specs.Prelude.{◌≡◌, ℕ, List, [], ◌∷◌, ◌++◌, Option, Some, None, option_map, option_and_then, slice_get, Result, Ok, Err}
 use Rattle.std.specs.List.{filter_map}
 use Rattle.std.specs.Option.{option_map_or}
 use Rattle.serde_json.specs.Data as json
@@ -7,7 +7,10 @@ use Rattle.gtm_data.specs.Json.{json_of}
 use Rattle.gtm_data.specs.Plain.{not_whole, too_deep}
 use Rattle.export_entries.specs.Entries.{entries_of}
 use Rattle.export_entries.specs.declared.entries.WrittenEntries.{WrittenEntries}
-use Rattle.export_reader.specs.Rules.{too_large, not_json, other_format, version_in, no_version, not_web, field_kind, duplicate_id, duplicate_name}
+use Rattle.export_model.specs.declared.container.Container.{Container}
+use Rattle.export_numbers.specs.Container.{container_of}
+use Rattle.export_reader.specs.Container.{container_in}
+use Rattle.export_reader.specs.Rules.{too_large, not_json, other_format, version_in, no_version, not_web, field_kind, duplicate_id, duplicate_name, unknown_trigger, unknown_sequence_tag, unknown_template, variable_cycle, group_cycle, priority_text, not_built}
 use Rattle.export_reader.specs.declared.top.ExportEnd.{ExportEnd}
 use Rattle.export_reader.specs.declared.top.ExportEnd.TheVariants.{OutOfMemory, Refused}
 
@@ -15,14 +18,29 @@ use Rattle.export_reader.specs.declared.top.ExportEnd.TheVariants.{OutOfMemory, 
 abbrev pub Rule : Type 0
 Rule = ℕ × Option (List ℕ)
 
+-- the rules of the container that entries stand for
+unfoldable pub container_rules : WrittenEntries → Container → List Rule
+container_rules written container =
+    (16, variable_cycle container)
+    ∷ (17, group_cycle container)
+    ∷ (18, priority_text written)
+    ∷ []
+
+-- the rules of what entries refer to
+unfoldable pub reference_rules : WrittenEntries → List Rule
+reference_rules written =
+    (11, unknown_trigger written)
+    ∷ (14, unknown_sequence_tag written)
+    ∷ (15, unknown_template written)
+    ∷ container_rules written (container_of written)
+
+-- the rules of entries
+unfoldable pub entries_rules : WrittenEntries → List Rule
+entries_rules written = (9, duplicate_id written) ∷ (10, duplicate_name written) ∷ reference_rules written
+
 -- the rules of a container version
 unfoldable pub version_rules : json.Data → List Rule
-version_rules version =
-    (7, not_web version)
-    ∷ (8, field_kind version)
-    ∷ (9, duplicate_id (entries_of version))
-    ∷ (10, duplicate_name (entries_of version))
-    ∷ []
+version_rules version = (7, not_web version) ∷ (8, field_kind version) ∷ entries_rules (entries_of version)
 
 -- the rules of an export's JSON tree
 unfoldable pub tree_rules : json.Data → List Rule
@@ -37,6 +55,10 @@ tree_rules d =
 unfoldable pub rules_of : List ℕ → List Rule
 rules_of bytes = (1, too_large bytes) ∷ (2, not_json (json_of bytes)) ∷ option_map_or tree_rules (json_of bytes) []
 
+-- the same, and behind them what is not built yet
+unfoldable pub export_rules : List ℕ → List Rule
+export_rules bytes = rules_of bytes ++ (29, option_and_then not_built (container_in bytes)) ∷ []
+
 -- a rule with its path, where it is broken
 abbrev pub broken : Rule → Option (ℕ × List ℕ)
 broken rule = option_map (λ path. (rule.0, path)) rule.1
@@ -47,25 +69,21 @@ first_of rules = slice_get (filter_map broken rules) 0
 
 -- the first broken rule of an export's bytes, with its path
 abbrev pub first_broken : List ℕ → Option (ℕ × List ℕ)
-first_broken bytes = first_of (rules_of bytes)
+first_broken bytes = first_of (export_rules bytes)
 
 -- the export breaks this rule, first at this path
 abbrev pub Breaks : List ℕ → ℕ → List ℕ → Type 0
-Breaks bytes rule path = (at : ℕ) × (slice_get (rules_of bytes) at ≡ Some (rule, Some path))
-
--- the container version of an export's bytes, where there is one
-abbrev pub version_of : List ℕ → Option json.Data
-version_of bytes = option_and_then version_in (json_of bytes)
+Breaks bytes rule path = (at : ℕ) × (slice_get (export_rules bytes) at ≡ Some (rule, Some path))
 
 -- a refusal names the first of these rules that is broken, and its path
 abbrev pub Refuses : List Rule → ExportEnd → Type 0
 Refuses rules OutOfMemory = Unit {0}
 Refuses rules (Refused rule path) = first_of rules ≡ Some (rule, path)
 
--- where none of these rules is broken the entries are given, and else the first broken one is told
-abbrev pub Judges : Result WrittenEntries ExportEnd → List Rule → Option WrittenEntries → Type 0
-Judges (Ok made) rules written = (first_of rules ≡ None) × (written ≡ Some made)
-Judges (Err end) rules written = Refuses rules end
+-- where none of these rules is broken the container is given, and else the first broken one is told
+abbrev pub Judges : Result Container ExportEnd → List Rule → Option Container → Type 0
+Judges (Ok made) rules container = (first_of rules ≡ None) × (container ≡ Some made)
+Judges (Err end) rules container = Refuses rules end
 
 -- memory was wanting
 abbrev pub IsOutOfMemory : ExportEnd → Type 0

@@ -1,5 +1,5 @@
 -- The rules of an export, each by itself: the path at which it is first broken, if it is.
-use Rattle.std.specs.Prelude.{ℕ, List, [], length, map, Bool, false, Option, Some, None, option_map, option_and_then, is_some, codes, nat_lt, ◌==◌, ◌||◌, if◌then◌else◌}
+use Rattle.std.specs.Prelude.{ℕ, List, [], ◌∷◌, length, map, Bool, false, Option, Some, None, option_map, option_and_then, is_some, codes, nat_lt, ◌==◌, ◌||◌, if◌then◌else◌}
 use Rattle.std.specs.Option.{option_map_or}
 use Rattle.std.specs.Str.{bytes_eq, chars}
 use Rattle.serde_json.specs.Data as json
@@ -9,6 +9,13 @@ use Rattle.export_fields.specs.Fault.{in_key, in_index, ◌then◌}
 use Rattle.export_fields.specs.Words.{folded}
 use Rattle.export_entries.specs.Entries.{entries_fault}
 use Rattle.export_entries.specs.declared.entries.WrittenEntries.{WrittenEntries}
+use Rattle.export_model.specs.Graphs.{variable_graph, group_graph}
+use Rattle.export_model.specs.declared.container.Container.{Container}
+use Rattle.export_references.specs.Priorities as priorities
+use Rattle.export_references.specs.UnknownTags as tags
+use Rattle.export_references.specs.UnknownTriggers as triggers
+use Rattle.export_references.specs.UnknownTypes as types
+use Rattle.reference_cycles.specs.Closure.{first_cycle}
 
 -- rule 1: it has over 8,388,608 bytes
 abbrev pub too_large : List ℕ → Option (List ℕ)
@@ -91,3 +98,45 @@ unfoldable pub duplicate_name : WrittenEntries → Option (List ℕ)
 duplicate_name written =
     repeated (codes "tag") (map (λ tag. tag.name) written.tags)
     then repeated (codes "variable") (map (λ variable. variable.name) written.variables)
+
+-- a path from the container version, as one from the top
+abbrev pub in_version : Option (List ℕ) → Option (List ℕ)
+in_version path = option_map (in_key (codes "containerVersion")) path
+
+-- rule 11: the number of a trigger stands for none
+unfoldable pub unknown_trigger : WrittenEntries → Option (List ℕ)
+unknown_trigger written = in_version (triggers.unknown_trigger written)
+
+-- rule 14: a setup or teardown tag has the name of no tag
+unfoldable pub unknown_sequence_tag : WrittenEntries → Option (List ℕ)
+unknown_sequence_tag written = in_version (tags.unknown_sequence_tag written)
+
+-- rule 15: the type of a custom template is that of none
+unfoldable pub unknown_template : WrittenEntries → Option (List ℕ)
+unknown_template written = in_version (types.unknown_template written)
+
+-- rule 16: a variable refers to itself, by names in parameters and formats
+unfoldable pub variable_cycle : Container → Option (List ℕ)
+variable_cycle c = option_map (entry_path (codes "variable")) (first_cycle (variable_graph c))
+
+-- rule 17: a group of triggers is among its own members, or theirs
+unfoldable pub group_cycle : Container → Option (List ℕ)
+group_cycle c = option_map (entry_path (codes "trigger")) (first_cycle (group_graph c))
+
+-- rule 18: the text of a priority is no whole number
+unfoldable pub priority_text : WrittenEntries → Option (List ℕ)
+priority_text written = in_version (priorities.priority_text written)
+
+-- the path of the first of these entries
+abbrev pub first_entry : {A : Type 0} → List ℕ → List A → Option (List ℕ)
+first_entry key [] = None
+first_entry key (x ∷ xs) = Some (entry_path key 0)
+
+-- rule 29: there is an entry, of which none is run yet
+unfoldable pub not_built : Container → Option (List ℕ)
+not_built c =
+    first_entry (codes "tag") c.tags
+    then first_entry (codes "trigger") c.triggers
+    then first_entry (codes "variable") c.variables
+    then first_entry (codes "builtInVariable") c.built_ins
+    then first_entry (codes "customTemplate") c.templates

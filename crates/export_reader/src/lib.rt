@@ -1,18 +1,22 @@
-//! Reads an export: its container, as it is written or as it runs, or the first rule that it breaks.
+//! Reads an export: its container, or the first rule that it breaks.
 //!
-//! `read_written` is refused exactly by the least rule that `rules_of` of `specs/` says is broken, at that rule's first
-//! path; each rule is defined by itself, on the whole JSON tree and on whole lists. Else it gives exactly the entries of the
-//! container version. `read_export` is refused by the same rules, and else gives the container that those entries stand
-//! for. Otherwise only memory can be wanting.
+//! `read_export` is refused exactly by the least rule that `export_rules` of `specs/` says is broken, at that rule's first
+//! path; each rule is defined by itself, on the whole JSON tree and on whole lists. Else it gives exactly the container that
+//! the export stands for, which is `Sound`: each number in it is in range, and nothing refers to itself. `read_container`
+//! does the same but for the last rule, which refuses what is not run yet. Otherwise only memory can be wanting.
 #![tactic(auto)]
 
 mod contexts;
+mod cycles;
+mod entries;
 mod laws;
 mod loading;
+mod not_built;
+mod paths;
 mod repeats;
 mod top;
 mod versions;
 
 pub use laws::the_first_broken_rule_is_the_least;
 pub use loading::{Loaded, read_export};
-pub use top::{ExportEnd, read_written};
+pub use top::{ExportEnd, read_container};

@@ -1,9 +1,10 @@
-ghost use Rattle.std.specs.Prelude.{◌≡◌, [], None, Some, IfOk, IfErr, option_map};
-ghost use Rattle.export_entries.specs.Entries.{entries_of};
-ghost use Rattle.export_reader.specs.FirstBroken.{first_broken, rules_of, version_of, Refuses};
+ghost use Rattle.std.specs.Prelude.{◌≡◌, [], None, Some, IfOk, IfErr, OnOk};
+ghost use Rattle.export_model.specs.Sound.{IsConsistent};
+ghost use Rattle.export_reader.specs.Container.{container_in};
+ghost use Rattle.export_reader.specs.FirstBroken.{first_of, rules_of, Refuses};
 
 use crate::versions::judge_tree;
-use export_entries::WrittenEntries;
+use export_model::Container;
 use gtm_base::{OutOfMemory, Text};
 use gtm_data::json_of;
 use std::alloc::Global;
@@ -30,11 +31,12 @@ impl From<OutOfMemory> for ExportEnd {
     }
 }
 
-/// The container version of an export's bytes, as it is written. `Refused` comes exactly where a rule is broken, and names the least one and its first path.
+/// The container of an export's bytes, with all that is not run yet. `Refused` comes exactly where a rule but the last is broken, and names the least one and its first path.
 #[tactic(auto, unfolding(crate::specs::FirstBroken::rules_of))]
-pub fn read_written(alloc: Global, bytes: &[u8]) -> Result<WrittenEntries, ExportEnd>
-    ensures ok { IfOk result (λ made. first_broken bytes.now ≡ None) }
-    ensures entries { IfOk result (λ made. option_map entries_of (version_of bytes.now) ≡ Some made) }
+pub fn read_container(alloc: Global, bytes: &[u8]) -> Result<Container, ExportEnd>
+    ensures ok { OnOk result (first_of (rules_of bytes.now) ≡ None) }
+    ensures container { IfOk result (λ made. container_in bytes.now ≡ Some made) }
+    ensures consistent { IfOk result IsConsistent }
     ensures refused { IfErr result (Refuses (rules_of bytes.now)) }
 {
     if bytes.len() > MAX_EXPORT {

@@ -1,24 +1,27 @@
 ghost use Rattle.std.specs.Prelude.{◌≡◌, [], None, Some, IfOk, option_map, codes, if◌then◌else◌};
 ghost use Rattle.serde_json.specs.View.{view};
 ghost use Rattle.export_fields.specs.Fault.{in_key};
-ghost use Rattle.export_entries.specs.Entries.{entries_of};
+ghost use Rattle.export_model.specs.Sound.{IsConsistent};
+ghost use Rattle.export_reader.specs.Container.{container_at};
 ghost use Rattle.export_reader.specs.FirstBroken.{tree_rules, version_rules, Judges};
 ghost use Rattle.export_reader.specs.Rules as rules;
 
 use crate::contexts::not_web;
-use crate::repeats::{duplicate_id, duplicate_name};
+use crate::entries::judge_entries;
 use crate::top::ExportEnd;
-use export_entries::{WrittenEntries, read_entries};
+use export_entries::read_entries;
 use export_fields::{ReadEnd, key_before};
+use export_model::Container;
 use gtm_base::{OutOfMemory, Text};
 use gtm_data::{DataEnd, check_json};
 use serde_json::Value;
 use std::alloc::Global;
 
-/// The container version of an export's tree, or the first of the rules from 3 on that it breaks.
+/// The container of an export's tree, or the first of the rules from 3 on that it breaks.
 #[tactic(auto, unfolding(crate::specs::FirstBroken::tree_rules))]
-pub fn judge_tree(alloc: Global, tree: &Value) -> Result<WrittenEntries, ExportEnd>
-    ensures { Judges result (tree_rules (view tree.now)) (option_map entries_of (rules.version_in (view tree.now))) }
+pub fn judge_tree(alloc: Global, tree: &Value) -> Result<Container, ExportEnd>
+    ensures judged { Judges result (tree_rules (view tree.now)) (option_map container_at (rules.version_in (view tree.now))) }
+    ensures consistent { IfOk result IsConsistent }
 {
     match check_json(alloc, tree) {
         Err(DataEnd::OutOfMemory) => return Err(ExportEnd::OutOfMemory),
@@ -65,27 +68,21 @@ fn version_in(tree: &Value) -> Option<&Value>
     }
 }
 
-// The container version, or the first of the rules from 7 on that it breaks.
+// The container of a container version, or the first of the rules from 7 on that it breaks.
 #[tactic(auto, unfolding(crate::specs::FirstBroken::version_rules))]
-fn judge_version(alloc: Global, version: &Value) -> Result<WrittenEntries, ExportEnd>
-    ensures { Judges result (version_rules (view version.now)) (Some (entries_of (view version.now))) }
+fn judge_version(alloc: Global, version: &Value) -> Result<Container, ExportEnd>
+    ensures judged { Judges result (version_rules (view version.now)) (Some (container_at (view version.now))) }
+    ensures consistent { IfOk result IsConsistent }
 {
     if let Some(path) = not_web(alloc, version)? {
         return Err(ExportEnd::Refused { rule: 7, path });
     }
-    let written = match read_entries(alloc, version) {
-        Ok(written) => written,
-        Err(ReadEnd::OutOfMemory) => return Err(ExportEnd::OutOfMemory),
+    match read_entries(alloc, version) {
+        Ok(written) => judge_entries(alloc, &written),
+        Err(ReadEnd::OutOfMemory) => Err(ExportEnd::OutOfMemory),
         Err(ReadEnd::Broken { path }) => {
             let path = key_before(alloc, "containerVersion", &path)?;
-            return Err(ExportEnd::Refused { rule: 8, path });
+            Err(ExportEnd::Refused { rule: 8, path })
         },
-    };
-    if let Some(path) = duplicate_id(alloc, &written)? {
-        return Err(ExportEnd::Refused { rule: 9, path });
     }
-    if let Some(path) = duplicate_name(alloc, &written)? {
-        return Err(ExportEnd::Refused { rule: 10, path });
-    }
-    Ok(written)
 }

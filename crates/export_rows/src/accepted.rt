@@ -1,6 +1,6 @@
 use crate::judging::{told, with_version};
-use export_entries::WrittenOption;
-use export_reader::read_written;
+use export_model::FiringOption;
+use export_reader::read_container;
 use std::test::Fail;
 
 // Members of a container version that breaks no rule.
@@ -60,7 +60,7 @@ fn accepted_exports(rt: HostRuntime) -> Result<(), Fail> {
 struct Scheduled {
     name: &'static str,
     members: &'static [u8],
-    option: WrittenOption,
+    option: FiringOption,
     from_ms: Option<i64>,
     until_ms: Option<i64>,
 }
@@ -69,21 +69,21 @@ const SCHEDULED: &[Scheduled] = &[
     Scheduled {
         name: "neither an option nor a schedule",
         members: br#""tag":[{"tagId":"1","name":"A","type":"html"}]"#,
-        option: WrittenOption::OncePerEvent,
+        option: FiringOption::OncePerEvent,
         from_ms: None,
         until_ms: None,
     },
     Scheduled {
         name: "a schedule as a number and as a text",
         members: br#""tag":[{"tagId":"1","name":"A","type":"html","tagFiringOption":"ONCE_PER_LOAD","scheduleStartMs":1714521600000,"scheduleEndMs":"1714608000000"}]"#,
-        option: WrittenOption::OncePerLoad,
+        option: FiringOption::OncePerLoad,
         from_ms: Some(1714521600000),
         until_ms: Some(1714608000000),
     },
     Scheduled {
         name: "a schedule before 1970",
         members: br#""tag":[{"tagId":"1","name":"A","type":"html","tagFiringOption":"Un_Limited","scheduleStartMs":"-5","scheduleEndMs":-4}]"#,
-        option: WrittenOption::Unlimited,
+        option: FiringOption::Unlimited,
         from_ms: Some(-5),
         until_ms: Some(-4),
     },
@@ -94,11 +94,11 @@ fn accepted_schedules(rt: HostRuntime) -> Result<(), Fail> {
     let alloc = rt.alloc();
     for row in SCHEDULED {
         let export = with_version(alloc, row.members)?;
-        let written = read_written(alloc, &export)?;
-        let tag = written.tags.get(0).ok_or("no tag")?;
-        assert_eq!(rt; tag.turn.option, row.option, "{}", row.name);
-        assert_eq!(rt; tag.turn.from_ms, row.from_ms, "{}", row.name);
-        assert_eq!(rt; tag.turn.until_ms, row.until_ms, "{}", row.name);
+        let container = read_container(alloc, &export)?;
+        let tag = container.tags.get(0).ok_or("no tag")?;
+        assert_eq!(rt; tag.option, row.option, "{}", row.name);
+        assert_eq!(rt; tag.from_ms, row.from_ms, "{}", row.name);
+        assert_eq!(rt; tag.until_ms, row.until_ms, "{}", row.name);
     }
     Ok(())
 }

@@ -1,4 +1,4 @@
-use export_reader::{ExportEnd, read_written};
+use export_reader::{ExportEnd, read_container, read_export};
 use gtm_base::{OutOfMemory, Text};
 use std::alloc::Global;
 
@@ -10,9 +10,18 @@ pub struct Row {
     pub path: &'static str,
 }
 
-/// The rule that is told of an export and its path, or 0 and the empty path where the export is read.
+/// The rule that is told of an export and its path, or 0 and the empty path where its container is read.
 pub fn told(alloc: Global, export: &[u8]) -> Result<(u8, Text), OutOfMemory> {
-    match read_written(alloc, export) {
+    match read_container(alloc, export) {
+        Ok(_) => Ok((0, Text::new(alloc))),
+        Err(ExportEnd::Refused { rule, path }) => Ok((rule, path)),
+        Err(ExportEnd::OutOfMemory) => Err(OutOfMemory),
+    }
+}
+
+/// The same with the last rule, which refuses what is not run yet.
+pub fn told_whole(alloc: Global, export: &[u8]) -> Result<(u8, Text), OutOfMemory> {
+    match read_export(alloc, export) {
         Ok(_) => Ok((0, Text::new(alloc))),
         Err(ExportEnd::Refused { rule, path }) => Ok((rule, path)),
         Err(ExportEnd::OutOfMemory) => Err(OutOfMemory),

@@ -14,13 +14,13 @@ mod judging;
 #[cfg(test)]
 mod many;
 #[cfg(test)]
+mod model;
+#[cfg(test)]
 mod naming;
 #[cfg(test)]
-mod numbering;
-#[cfg(test)]
-mod params;
-#[cfg(test)]
 mod realistic;
+#[cfg(test)]
+mod reference_rows;
 #[cfg(test)]
 mod version_rows;
 #[cfg(test)]

@@ -1,7 +1,8 @@
 use crate::judging::with_version;
+use crate::model::is_literal;
 use export_model::{NameRef, ParamValue, Piece, Pieces};
-use export_params::{Names, params_of, pieces_of};
-use export_reader::read_written;
+use export_params::{Names, pieces_of};
+use export_reader::read_container;
 use gtm_base::Text;
 use std::test::Fail;
 
@@ -89,11 +90,9 @@ const KINDS: &[u8] =
 #[test]
 fn parameters_of_each_kind(rt: HostRuntime) -> Result<(), Fail> {
     let alloc = rt.alloc();
-    let written = read_written(alloc, &with_version(alloc, KINDS)?)?;
-    let tag = written.tags.get(0).ok_or("no tag")?;
-    let names = Names::of(alloc, &[], &[])?;
-    let params = params_of(alloc, &names, &tag.params)?;
-    let [number, broken, truth, word, list, map, reference] = params.as_slice() else {
+    let container = read_container(alloc, &with_version(alloc, KINDS)?)?;
+    let tag = container.tags.get(0).ok_or("no tag")?;
+    let [number, broken, truth, word, list, map, reference] = tag.params.as_slice() else {
         return Err("other than seven parameters".into());
     };
     assert_eq!(rt; number.key.as_str(), "n", "the key");
@@ -101,9 +100,9 @@ fn parameters_of_each_kind(rt: HostRuntime) -> Result<(), Fail> {
         matches!(number.value, ParamValue::Integer(-7)),
         "a whole number"
     );
-    assert!(rt; is_text(&broken.value, "7.0"), "no whole number");
+    assert!(rt; is_literal(&broken.value, "7.0"), "no whole number");
     assert!(rt; matches!(truth.value, ParamValue::Bool(true)), "a truth");
-    assert!(rt; is_text(&word.value, "True"), "no truth");
+    assert!(rt; is_literal(&word.value, "True"), "no truth");
     assert!(rt;
         matches!(&list.value, ParamValue::List(items) if items.len() == 2),
         "a list"
@@ -117,15 +116,4 @@ fn parameters_of_each_kind(rt: HostRuntime) -> Result<(), Fail> {
         "a reference"
     );
     Ok(())
-}
-
-// Whether it is a text without names, and this one.
-fn is_text(value: &ParamValue, wanted: &str) -> bool {
-    match value {
-        ParamValue::Template(pieces) => match pieces.get(0) {
-            Some(Piece::Literal(text)) => pieces.len() == 1 && text.is(wanted),
-            _ => false,
-        },
-        _ => false,
-    }
 }

@@ -1,6 +1,6 @@
 use Rattle.std.proofs.Common.{◌≡◌, ◌++◌, take}
 use Rattle.export_numbers.specs.References.{never_ids}
-use Rattle.export_numbers.specs.Values.{values_of}
+use Rattle.export_names.specs.Values.{values_of}
 use Rattle.export_numbers.proofs.references.push_never_members.Given as goal
 
 abbrev pub invariant-loop-param : goal.invariant-loop-param

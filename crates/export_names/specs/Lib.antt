@@ -1,0 +1,5 @@
+pub mod Lists
+pub mod Members
+pub mod TriggerRefs
+pub mod Types
+pub mod Values

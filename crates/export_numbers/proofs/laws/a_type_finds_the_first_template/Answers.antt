@@ -1,5 +1,0 @@
-use Rattle.export_numbers.proofs.Types.{first_by_names}
-use Rattle.export_numbers.proofs.laws.a_type_finds_the_first_template.Goals as goal
-
-pub returns : goal.returns
-returns c kind templates = first_by_names kind templates

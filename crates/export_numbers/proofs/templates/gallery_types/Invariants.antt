@@ -1,6 +1,0 @@
-use Rattle.std.proofs.Common.{◌≡◌, take, map}
-use Rattle.export_numbers.specs.Templates.{gallery_type}
-use Rattle.export_numbers.proofs.templates.gallery_types.Given as goal
-
-abbrev pub invariant-loop-template : goal.invariant-loop-template
-invariant-loop-template l = l.made ≡ map gallery_type (take l.template-index l.written)

@@ -1,0 +1,64 @@
+-- A container without templates uses none.
+use Rattle.std.proofs.Common.{◌≡◌, ◌<◌, ℕ, List, [], ◌∷◌, length, Option, Some, None, refl, subst, arith}
+use Rattle.std.specs.Prelude.{codes}
+use Rattle.std.proofs.lemmas.List.Elements.{All-weaker}
+use Rattle.export_fields.specs.Fault.{◌then◌}
+use Rattle.export_model.specs.Sound.{IsTagKindIn, IsVariableKindIn, IsTagIn, IsVariableIn, InRange, FitsTag, FitsVariable, FitsTemplates, IsConsistent, Sound}
+use Rattle.export_model.specs.declared.container.Container.{Container}
+use Rattle.export_model.specs.declared.tags.TagKind.{TagKind}
+use Rattle.export_model.specs.declared.tags.TagKind.TheVariants as tag_kind
+use Rattle.export_model.specs.declared.variables.VariableKind.{VariableKind}
+use Rattle.export_model.specs.declared.variables.VariableKind.TheVariants.{Layer, Constant, Cookie, Global, Url, Referrer, EventName, Lookup, RegexTable, Template, Unknown}
+use Rattle.export_reader.specs.Rules.{first_entry, not_built}
+
+no_place : (c : Container) → c.templates ≡ [] → (at : ℕ) → at < length c.templates → ⊥
+no_place c none at lower = let within : at < 0 = subst (λ templates. at < length templates) none lower in absurd (omega (arith, within))
+
+module _ (c : Container) (none : c.templates ≡ []) where
+  tag_kind_fits : (kind : TagKind) → IsTagKindIn c kind → FitsTag c kind
+  tag_kind_fits (tag_kind.Template at) lower = absurd (no_place c none at lower)
+  tag_kind_fits (tag_kind.Opaque word) there = tt
+
+  variable_kind_fits : (kind : VariableKind) → IsVariableKindIn c kind → FitsVariable c kind
+  variable_kind_fits Layer there = tt
+  variable_kind_fits Constant there = tt
+  variable_kind_fits Cookie there = tt
+  variable_kind_fits Global there = tt
+  variable_kind_fits Url there = tt
+  variable_kind_fits Referrer there = tt
+  variable_kind_fits EventName there = tt
+  variable_kind_fits Lookup there = tt
+  variable_kind_fits RegexTable there = tt
+  variable_kind_fits (Template at) lower = absurd (no_place c none at lower)
+  variable_kind_fits (Unknown word) there = tt
+
+  fits : InRange c → FitsTemplates c
+  fits there = record {
+    tags = All-weaker (IsTagIn c) (λ tag. FitsTag c tag.kind) (λ tag is. tag_kind_fits tag.kind is.kind) c.tags there.tags;
+    variables = All-weaker (IsVariableIn c) (λ variable. FitsVariable c variable.kind) (λ variable is. variable_kind_fits variable.kind is.kind) c.variables there.variables;
+  }
+
+none_first : (found later : Option (List ℕ)) → None ≡ (found then later) → None ≡ later
+none_first None later is = is
+none_first (Some path) later is = absurd cc
+
+empty : {A : Type 0} (key : List ℕ) (items : List A) → None ≡ first_entry key items → items ≡ []
+empty key [] is = refl
+empty key (x ∷ items) is = absurd cc
+
+no_templates : (c : Container) → None ≡ not_built c → c.templates ≡ []
+unfolding not_built
+no_templates c is =
+    let templates = first_entry (codes "customTemplate") c.templates in
+    let built_ins = first_entry (codes "builtInVariable") c.built_ins in
+    let variables = first_entry (codes "variable") c.variables in
+    let triggers = first_entry (codes "trigger") c.triggers in
+    let tags = first_entry (codes "tag") c.tags in
+    empty (codes "customTemplate") c.templates
+    (none_first built_ins templates
+    (none_first variables (built_ins then templates)
+    (none_first triggers (variables then built_ins then templates) (none_first tags (triggers then variables then built_ins then templates) is))))
+
+-- a consistent container that has nothing which is not built is sound
+pub sound : (c : Container) → IsConsistent c → None ≡ not_built c → Sound c
+sound c is built = record { consistent = is; fits = fits c (no_templates c built) is.in_range }

@@ -1,0 +1,104 @@
+ghost use Rattle.std.specs.Prelude.{◌≡◌, Some, None, IfOk, codes};
+ghost use Rattle.export_model.specs.Sound.{IsConsistent};
+ghost use Rattle.export_numbers.specs.Container.{container_of};
+ghost use Rattle.export_reader.specs.FirstBroken.{entries_rules, reference_rules, container_rules, Judges};
+ghost use Rattle.export_reader.specs.Rules as rules;
+
+use crate::cycles::{group_cycle, variable_cycle};
+use crate::paths::in_version;
+use crate::repeats::{duplicate_id, duplicate_name};
+use crate::top::ExportEnd;
+use export_entries::WrittenEntries;
+use export_model::Container;
+use export_numbers::container_of;
+use export_references::{priority_text, unknown_sequence_tag, unknown_template, unknown_trigger};
+use gtm_base::{OutOfMemory, Text};
+use std::alloc::Global;
+
+/// The container of entries, or the first of the rules from 9 on that they break.
+#[tactic(auto, unfolding(crate::specs::FirstBroken::entries_rules))]
+pub fn judge_entries(alloc: Global, written: &WrittenEntries) -> Result<Container, ExportEnd>
+    ensures judged { Judges result (entries_rules written.now) (Some (container_of written.now)) }
+    ensures consistent { IfOk result IsConsistent }
+{
+    if let Some(path) = duplicate_id(alloc, written)? {
+        return Err(ExportEnd::Refused { rule: 9, path });
+    }
+    if let Some(path) = duplicate_name(alloc, written)? {
+        return Err(ExportEnd::Refused { rule: 10, path });
+    }
+    judge_references(alloc, written)
+}
+
+// The container of entries, or the first of the rules from 11 on that they break.
+#[tactic(auto, unfolding(crate::specs::FirstBroken::reference_rules))]
+fn judge_references(alloc: Global, written: &WrittenEntries) -> Result<Container, ExportEnd>
+    ensures judged { Judges result (reference_rules written.now) (Some (container_of written.now)) }
+    ensures consistent { IfOk result IsConsistent }
+{
+    if let Some(path) = trigger_path(alloc, written)? {
+        return Err(ExportEnd::Refused { rule: 11, path });
+    }
+    if let Some(path) = sequence_tag_path(alloc, written)? {
+        return Err(ExportEnd::Refused { rule: 14, path });
+    }
+    if let Some(path) = template_path(alloc, written)? {
+        return Err(ExportEnd::Refused { rule: 15, path });
+    }
+    judge_container(alloc, written)
+}
+
+// The container of entries, or the first of the rules from 16 on that it breaks.
+#[tactic(auto, unfolding(crate::specs::FirstBroken::container_rules))]
+fn judge_container(alloc: Global, written: &WrittenEntries) -> Result<Container, ExportEnd>
+    ensures judged { Judges result (container_rules written.now (container_of written.now)) (Some (container_of written.now)) }
+    ensures consistent { IfOk result IsConsistent }
+{
+    let container = container_of(alloc, written)?;
+    if let Some(path) = variable_cycle(alloc, &container)? {
+        return Err(ExportEnd::Refused { rule: 16, path });
+    }
+    if let Some(path) = group_cycle(alloc, &container)? {
+        return Err(ExportEnd::Refused { rule: 17, path });
+    }
+    if let Some(path) = priority_path(alloc, written)? {
+        return Err(ExportEnd::Refused { rule: 18, path });
+    }
+    Ok(container)
+}
+
+// The path of the first number of a trigger that stands for none.
+#[tactic(auto, unfolding(crate::specs::Rules::unknown_trigger))]
+fn trigger_path(alloc: Global, written: &WrittenEntries) -> Result<Option<Text>, OutOfMemory>
+    ensures { IfOk result (λ path. path ≡ rules.unknown_trigger written.now) }
+{
+    let path = unknown_trigger(alloc, written)?;
+    in_version(alloc, &path)
+}
+
+// The path of the first name of a setup or teardown tag that no tag has.
+#[tactic(auto, unfolding(crate::specs::Rules::unknown_sequence_tag))]
+fn sequence_tag_path(alloc: Global, written: &WrittenEntries) -> Result<Option<Text>, OutOfMemory>
+    ensures { IfOk result (λ path. path ≡ rules.unknown_sequence_tag written.now) }
+{
+    let path = unknown_sequence_tag(alloc, written)?;
+    in_version(alloc, &path)
+}
+
+// The path of the first type of a custom template that no template has.
+#[tactic(auto, unfolding(crate::specs::Rules::unknown_template))]
+fn template_path(alloc: Global, written: &WrittenEntries) -> Result<Option<Text>, OutOfMemory>
+    ensures { IfOk result (λ path. path ≡ rules.unknown_template written.now) }
+{
+    let path = unknown_template(alloc, written)?;
+    in_version(alloc, &path)
+}
+
+// The path of the first priority that is no whole number.
+#[tactic(auto, unfolding(crate::specs::Rules::priority_text))]
+fn priority_path(alloc: Global, written: &WrittenEntries) -> Result<Option<Text>, OutOfMemory>
+    ensures { IfOk result (λ path. path ≡ rules.priority_text written.now) }
+{
+    let path = priority_text(alloc, written)?;
+    in_version(alloc, &path)
+}

@@ -1,0 +1,93 @@
+ghost use Rattle.std.specs.Prelude.{◌≡◌, codes, IfOk, None};
+ghost use Rattle.std.specs.Option.{option_map_or};
+ghost use Rattle.export_references.specs.FirstFault.{list_fault};
+ghost use Rattle.export_references.specs.UnknownTags.{unknown_sequence_tag, tag_fault, name_fault};
+
+use crate::paths::{item_path, member_path};
+use export_entries::{WrittenEntries, WrittenSetup, WrittenTag, WrittenTags, WrittenTeardown};
+use export_names::tag_names;
+use gtm_base::{OutOfMemory, Text};
+use std::alloc::Global;
+use text_places::Places;
+
+/// The path, from the container version, of the first name of a setup or teardown tag that no tag has: of each tag, that of its setup tag before that of its teardown tag. `None` where a tag has each name. Fails where memory is wanting.
+pub fn unknown_sequence_tag(
+    alloc: Global,
+    written: &WrittenEntries,
+) -> Result<Option<Text>, OutOfMemory>
+    ensures { IfOk result (λ found. found ≡ unknown_sequence_tag written.now) }
+{
+    let texts = tag_names(alloc, &written.tags)?;
+    let names = Places::of(alloc, &texts)?;
+    let found = in_tags(alloc, &names, &written.tags)?;
+    Ok(found)
+}
+
+// The first unknown name of a tag.
+fn in_tags(alloc: Global, names: &Places, tags: &WrittenTags) -> Result<Option<Text>, OutOfMemory>
+    ensures { IfOk result (λ found. found ≡ list_fault (codes "tag") (tag_fault names.now) tags.now) }
+{
+    for (at, tag) in tags.as_slice().iter().enumerate() {
+        if let Some(path) = in_tag(alloc, names, tag)? {
+            let whole = item_path(alloc, "tag", at, &path)?;
+            return Ok(Some(whole));
+        }
+    }
+    Ok(None)
+}
+
+// The first unknown name of this tag: that of its setup tag, then that of its teardown tag.
+fn in_tag(alloc: Global, names: &Places, tag: &WrittenTag) -> Result<Option<Text>, OutOfMemory>
+    ensures { IfOk result (λ found. found ≡ tag_fault names.now tag.now) }
+{
+    let setup = in_setup(alloc, names, &tag.turn.setup)?;
+    if setup.is_some() {
+        return Ok(setup);
+    }
+    in_teardown(alloc, names, &tag.turn.teardown)
+}
+
+// The name of the setup tag, where it is unknown.
+fn in_setup(
+    alloc: Global,
+    names: &Places,
+    setup: &Option<WrittenSetup>,
+) -> Result<Option<Text>, OutOfMemory>
+    ensures { IfOk result (λ found. found ≡ option_map_or (λ setup. name_fault names.now (codes "setupTag") setup.tag) setup.now None) }
+{
+    match setup {
+        Some(setup) => in_name(alloc, names, "setupTag", &setup.tag),
+        None => Ok(None),
+    }
+}
+
+// The name of the teardown tag, where it is unknown.
+fn in_teardown(
+    alloc: Global,
+    names: &Places,
+    teardown: &Option<WrittenTeardown>,
+) -> Result<Option<Text>, OutOfMemory>
+    ensures { IfOk result (λ found. found ≡ option_map_or (λ teardown. name_fault names.now (codes "teardownTag") teardown.tag) teardown.now None) }
+{
+    match teardown {
+        Some(teardown) => in_name(alloc, names, "teardownTag", &teardown.tag),
+        None => Ok(None),
+    }
+}
+
+// The name in the one entry of the list at a key, where it is unknown.
+fn in_name(
+    alloc: Global,
+    names: &Places,
+    key: &str,
+    name: &Text,
+) -> Result<Option<Text>, OutOfMemory>
+    ensures { IfOk result (λ found. found ≡ name_fault names.now key.now name.now) }
+{
+    if names.place(name.as_str()).is_some() {
+        return Ok(None);
+    }
+    let field = member_path(alloc, "tagName")?;
+    let whole = item_path(alloc, key, 0, &field)?;
+    Ok(Some(whole))
+}
