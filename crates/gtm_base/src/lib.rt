@@ -8,6 +8,7 @@
 //! A law, `keys_lead_to_their_pairs`, says of whole lists of pairs what the lookups by key mean.
 #![tactic(auto)]
 
+mod address;
 mod disk_files;
 mod handed;
 mod keyed;
@@ -23,6 +24,7 @@ mod status;
 mod text;
 mod writing;
 
+pub use address::Address;
 pub use disk_files::DiskFiles;
 pub use keyed::Keyed;
 pub use laws::keys_lead_to_their_pairs;

@@ -10,6 +10,7 @@
 
 mod copying;
 mod data;
+mod facts;
 mod json;
 mod laws;
 mod numbers;
@@ -21,6 +22,7 @@ mod walking;
 
 pub use copying::copy;
 pub use data::{Data, Items, Members};
+pub use facts::PageFact;
 pub use json::json_of;
 pub use laws::{
     data_is_plain_exactly_where_it_is_shallow, dotted_texts_are_their_parts, get_goes_by_steps,

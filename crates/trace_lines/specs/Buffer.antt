@@ -1,0 +1,17 @@
+-- The bytes of a trace that are held, as contracts see them.
+use Rattle.std.specs.Prelude.{◌+◌, ◌≤◌, length, take, drop}
+use Rattle.trace_lines.specs.Holding.{HasNoEnd, IsWithin}
+use Rattle.trace_lines.specs.Reading.{Position}
+use Rattle.trace_lines.specs.declared.lines.Lines.TheInside.{Inside}
+
+-- where the reading stands
+abbrev pub position_in : Inside → Position
+position_in i = record { line = take i.line_len (drop i.line_start i.bytes.items); held = drop i.start i.bytes.items; before = i.before }
+
+-- the bytes are never many, the places lie within them, and no LF is where one was looked for
+pub record IsInOrder (i : Inside) : Type 0 where
+  pub few : length i.bytes.items ≤ 1048577
+  pub line : i.line_start + i.line_len ≤ length i.bytes.items
+  pub searched : i.start + i.searched ≤ length i.bytes.items
+  pub none : HasNoEnd (drop i.start i.bytes.items) i.searched
+  pub within : IsWithin (position_in i)

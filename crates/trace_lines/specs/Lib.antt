@@ -1,0 +1,4 @@
+pub mod Buffer
+pub mod Holding
+pub mod Lines
+pub mod Reading
