@@ -2,8 +2,8 @@
 //!
 //! A trace is lines of JSON, each an object of one form. `Reader::next_step` hands out the steps that the definition
 //! `trace_of` of `specs/` tells, in their order, before it reads on: it ends at the first bad line with the least rule that
-//! this line breaks, at the end of the trace, or where the file cannot be read, and then answers the same again. It holds
-//! one line and one piece of the file, however long the trace is. Otherwise only memory can be wanting.
+//! this line breaks, at the end of the trace, or where the file cannot be read. After an error it answers the same again and
+//! reads nothing. Otherwise only memory can be wanting.
 #![tactic(auto)]
 
 mod reader;
