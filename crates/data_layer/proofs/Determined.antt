@@ -5,21 +5,9 @@ use Rattle.gtm_data.specs.Tree.{Tree, undefined, null, bool, whole, text, list, 
 use Rattle.gtm_data.specs.Paths.{Step, key, index, member, nth, at}
 use Rattle.gtm_data.specs.Distinct.{Distinct, DistinctItems, DistinctEntries, has_member}
 use Rattle.data_layer.specs.After.{Kind, leaf, a_list, a_map, kind, Meet, MeetDownTo, keys, After}
+use Rattle.data_layer.specs.Shown.{nothing, plain, a_list_there, a_map_there, shown}
 use Rattle.data_layer.proofs.Steps.{same_key, equal_keys, absent_member}
 use Rattle.data_layer.proofs.Afters.{below}
-
--- what shows at a path: nothing, a value without parts, a List, or a Map with these keys
-pub data Shown : Type 0 where
-  nothing : Shown
-  plain : Tree → Shown
-  a_list_there : Shown
-  a_map_there : List (List ℕ) → Shown
-
-abbrev pub shown : Option Tree → Shown
-shown None = nothing
-shown (Some (list ts)) = a_list_there
-shown (Some (object es)) = a_map_there (keys es)
-shown (Some t) = plain t
 
 -- ---- two trees in which the same shows at each path are equal
 abbrev SameBelow : Option Tree → Option Tree → Type 0

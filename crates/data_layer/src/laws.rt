@@ -1,9 +1,10 @@
-ghost use Rattle.std.specs.Prelude.{◌≡◌, ℕ, List, ◌++◌};
+ghost use Rattle.std.specs.Prelude.{◌≡◌, ℕ, List, ◌++◌, Some};
 ghost use Rattle.std.specs.Option.{option_or};
 ghost use Rattle.gtm_data.specs.Distinct.{Distinct, DistinctEntries};
-ghost use Rattle.gtm_data.specs.Paths.{member};
+ghost use Rattle.gtm_data.specs.Paths.{Step, member};
 ghost use Rattle.gtm_data.specs.Tree.{Tree, Entries};
 ghost use Rattle.data_layer.specs.After.{After, keys, new_keys};
+ghost use Rattle.data_layer.specs.Command.{Command, command_in, commanded, after_command, HasListAt, AfterCommand};
 ghost use Rattle.data_layer.specs.Layer.{LayerState, DistinctLayer, empty_layer, after_message, version_one_after};
 ghost use Rattle.data_layer.specs.Merge.{merge};
 
@@ -32,4 +33,19 @@ pub fn version_one_keeps_the_last_value()
 pub fn messages_keep_keys_distinct()
     ensures empty { DistinctLayer empty_layer }
     ensures kept { (message : Tree) (layer : LayerState) → Distinct message → DistinctLayer layer → DistinctLayer (after_message message layer) }
+{}
+
+/// A law, with nothing to call: path by path, what a command makes of a model is what `AfterCommand` says: another List at its path, and every other path as it was.
+pub fn commands_go_by_paths()
+    ensures { (pushed model changed : Tree) (command : Command) → command_in pushed ≡ Some command → commanded pushed model ≡ Some changed → AfterCommand command model changed }
+{}
+
+/// A law, with nothing to call: no other tree has this List at this path and is else as it was, among those in which no Map has a key twice.
+pub fn paths_determine_the_command()
+    ensures { (path : List Step) (items : List Tree) (m r s : Tree) → Distinct r → Distinct s → HasListAt path items m r → HasListAt path items m s → r ≡ s }
+{}
+
+/// A law, with nothing to call: no command gives a Map of the layer a key twice.
+pub fn commands_keep_keys_distinct()
+    ensures { (pushed : Tree) (layer : LayerState) → Distinct pushed → DistinctLayer layer → DistinctLayer (after_command pushed layer) }
 {}

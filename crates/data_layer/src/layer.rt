@@ -1,8 +1,10 @@
 ghost use Rattle.std.specs.Prelude.{◌≡◌, not, IsErr, IfOk, IfSome, OnOk, OnErr, option_map, Some, None};
 ghost use Rattle.std.specs.Str.{chars};
 ghost use Rattle.gtm_data.specs.Tree.{tree_of};
+ghost use Rattle.data_layer.specs.Command.{is_ignored_command, after_command};
 ghost use Rattle.data_layer.specs.Layer.{empty_layer, is_ignored, after_message, layer_value, seen};
 
+use crate::commands::run;
 use crate::taking::take;
 use gtm_base::{Keyed, OutOfMemory};
 use gtm_data::{Data, Members, get};
@@ -81,5 +83,25 @@ impl Layer {
         let took = take(self.alloc, message, &mut self.model, &mut self.version_one)?;
         self.spent = false;
         Ok(took)
+    }
+
+    /// Runs a pushed List as a command array, and answers whether it was not ignored.
+    ///
+    /// Its first item is a text such as `a.b.push`: the last part between dots is a method, `push`, `pop`, `shift`, `unshift` or `reverse`, of the List at the path of the others, and the other items go with it. It is ignored where its first item is no text, the method is none of these, no List is at the path, or an item that it adds would nest over 64 deep. The values of version 1 stay.
+    ///
+    /// After want of memory the layer is spent, as after `take`.
+    pub fn command(&mut self, list: &Data) -> Result<bool, OutOfMemory>
+        ensures told { IfOk result (λ ran. IfSome (seen self.old) (λ layer. ran ≡ not (is_ignored_command (tree_of list.now) layer))) }
+        ensures changed { OnOk result (seen self.new ≡ option_map (after_command (tree_of list.now)) (seen self.old)) }
+        ensures spent { OnErr result (self.new ≡ None) }
+        ensures stays_spent { self.old ≡ None → IsErr result }
+    {
+        if self.spent {
+            return Err(OutOfMemory);
+        }
+        self.spent = true;
+        let ran = run(self.alloc, list, &mut self.model)?;
+        self.spent = false;
+        Ok(ran)
     }
 }

@@ -37,10 +37,10 @@ fn part_count(key: &str) -> usize
     key.split('.').count()
 }
 
-// The depth of a value, or 65 for all that is deeper.
+/// The depth of a value, or 65 for all that is deeper.
 #[cycle(depth)]
 #[tactic(auto, unfolding(gtm_data::specs::Tree::depth))]
-fn depth(value: &Data) -> u8
+pub fn depth(value: &Data) -> u8
     ensures { result ≡ min 65 (spec.depth (tree_of value.now)) }
 {
     match value {

@@ -20,8 +20,8 @@ pub fn nested(alloc: Global, key: &str, value: &Data) -> Result<Data, OutOfMemor
     Ok(made)
 }
 
-// The parts of a text between its dots.
-fn parts(alloc: Global, text: &str) -> Result<Texts, OutOfMemory>
+/// The parts of a text between its dots.
+pub fn parts(alloc: Global, text: &str) -> Result<Texts, OutOfMemory>
     ensures { IfOk result (λ made. made ≡ dotted (chars text.now)) }
 {
     let mut parts = Texts::new(alloc);
