@@ -18,6 +18,8 @@ pub record Counts : Type 0 where
 pub data LogLine : Type 0 where
   -- a message, and whether it was ignored
   message : Tree → Bool → LogLine
+  -- a pushed List, and whether it was ignored
+  command : Tree → Bool → LogLine
   -- the number of an event and its name
   event : ℕ → List ℕ → LogLine
   -- the model of the data layer
@@ -25,9 +27,14 @@ pub data LogLine : Type 0 where
   -- the last line
   finish : Counts → LogLine
 
+-- what stands behind a value that was ignored
+abbrev pub ignored_word : Bool → List ℕ
+ignored_word ignored = if ignored then codes " ignored" else []
+
 -- a line without its LF
 abbrev pub line_text : LogLine → List ℕ
-line_text (message value ignored) = codes "message " ++ json_text value ++ (if ignored then codes " ignored" else [])
+line_text (message value ignored) = codes "message " ++ json_text value ++ ignored_word ignored
+line_text (command value ignored) = codes "command " ++ json_text value ++ ignored_word ignored
 line_text (event number name) = codes "event " ++ decimal number ++ codes " " ++ quoted name
 line_text (model value) = codes "model " ++ json_text value
 line_text (finish counts) =

@@ -9,6 +9,11 @@ pub enum Line {
         value: Data,
         ignored: bool,
     },
+    /// `command J`: a pushed List, with ` ignored` behind where it was ignored.
+    Command {
+        value: Data,
+        ignored: bool,
+    },
     /// `event E J`: the event's number, from 1, and its name.
     Event {
         event: u64,

@@ -3,11 +3,13 @@ ghost use Rattle.gtm_base.specs.Ascii.{is_all_ascii};
 ghost use Rattle.gtm_base.specs.Causes.{Rose};
 ghost use Rattle.gtm_base.specs.Outside.{and_then, TookFront};
 ghost use Rattle.run_log.specs.LineOf.{line_of};
-ghost use Rattle.run_log.specs.Lines.{line_text, line_bytes};
+ghost use Rattle.gtm_data.specs.JsonText.{json_text};
+ghost use Rattle.gtm_data.specs.Tree.{tree_of};
+ghost use Rattle.run_log.specs.Lines.{line_text, line_bytes, ignored_word};
 
 use crate::Line;
 use gtm_base::{OutOfMemory, Sink, SinkFailed, Text, put};
-use gtm_data::{write_json, write_quoted};
+use gtm_data::{Data, write_json, write_quoted};
 use std::alloc::Global;
 
 // Most lines have fewer bytes.
@@ -65,13 +67,8 @@ fn write_line(text: &mut Text, line: &Line) -> Result<(), OutOfMemory>
     ensures { OnOk result (text.new ≡ text.old ++ line_text (line_of line.now)) }
 {
     match line {
-        Line::Message { value, ignored } => {
-            text.push_word("message ")?;
-            write_json(text, value)?;
-            if *ignored {
-                text.push_word(" ignored")?;
-            }
-        },
+        Line::Message { value, ignored } => write_job(text, "message ", value, *ignored)?,
+        Line::Command { value, ignored } => write_job(text, "command ", value, *ignored)?,
         Line::Event { event, name } => {
             write_count(text, "event ", *event)?;
             text.push_word(" ")?;
@@ -100,6 +97,19 @@ fn write_line(text: &mut Text, line: &Line) -> Result<(), OutOfMemory>
             write_count(text, " denied=", *denied)?;
             write_count(text, " faults=", *faults)?;
         },
+    }
+    Ok(())
+}
+
+// A word and a value, with ` ignored` behind where it was ignored.
+fn write_job(text: &mut Text, word: &str, value: &Data, ignored: bool) -> Result<(), OutOfMemory>
+    requires { IsTrue (is_all_ascii word.now) }
+    ensures { OnOk result (text.new ≡ text.old ++ word.now ++ json_text (tree_of value.now) ++ ignored_word ignored) }
+{
+    text.push_word(word)?;
+    write_json(text, value)?;
+    if ignored {
+        text.push_word(" ignored")?;
     }
     Ok(())
 }
