@@ -1,4 +1,4 @@
-ghost use Rattle.std.specs.Prelude.{◌≡◌, ◌≤◌, ◌<◌, ◌+◌, [], None, Some, Ok, Err, IsTrue, IfOk, IfErr, IfSome, IfNone, OnOk, IsErrOf, Contains, if◌then◌else◌};
+ghost use Rattle.std.specs.Prelude.{◌≡◌, ◌≤◌, ◌<◌, ◌+◌, [], None, Some, Ok, Err, IsTrue, IsSome, IfOk, IfErr, IfSome, IfNone, OnOk, IsErrOf, Contains, if◌then◌else◌};
 ghost use Rattle.gtm_base.specs.Causes.{Rose};
 ghost use Rattle.gtm_base.specs.Outside.{ReadOn};
 ghost use Rattle.trace_forms.specs.Lines.{line_of};
@@ -76,6 +76,8 @@ impl Reader {
         ensures unread { IfNone self.old.ended (IsErrOf result TraceEnd.ReadFault → ¬ Contains self.new.position.held 10) }
         ensures ended { IfErr result (λ end. self.new.ended ≡ Some end) }
         ensures goes_on { OnOk result (self.new.ended ≡ None) }
+        ensures onward { IfOk result (λ step. IsSome step → self.old.position.before < self.new.position.before) }
+        ensures within { OnOk result (self.new.position.before ≤ 67108864) }
     {
         if let Some(end) = self.ended {
             return Err(end);
@@ -101,6 +103,8 @@ impl Reader {
         ensures told { IfSome (trace_left self.old (F.left files.old)) (λ trace. Tells result trace (trace_left self.new (F.left files.new))) }
         ensures unread { IsErrOf result TraceEnd.ReadFault → ¬ Contains self.new.position.held 10 }
         ensures ended { self.new.ended ≡ self.old.ended }
+        ensures onward { IfOk result (λ step. IsSome step → self.old.position.before < self.new.position.before) }
+        ensures within { OnOk result (self.new.position.before ≤ 67108864) }
     {
         loop {
             match self.next_line(files) {

@@ -1,4 +1,4 @@
-use Rattle.std.proofs.Common.{◌∙◌}
+use Rattle.std.proofs.Common.{◌∙◌, arith}
 use Rattle.trace_lines.proofs.HandedOut.{read_on}
 use Rattle.trace_reader.proofs.Told.{one_more, moved, stopped, asks_nothing, asks_step, end_told, failed_told, step_told, bad_told, blank_left}
 use Rattle.trace_reader.proofs.reader.Reader.read_on.Goals as goal
@@ -25,6 +25,7 @@ loop-end-preserved g c = record {
   read_on = read_on c.loop-end.invariant.read_on c.next_line.ensures.read_on;
   left = blank_left _ c.loop-end.self c.next_line.new.self _ _ c.loop-end.invariant.left (one_more c.loop-end.self.lines c.next_line.new.self.lines c.in-Ok-true.field-0 c.in-Ok-true.field-0-test c.in-Ok-true.ensures.lines) (moved c.loop-end.self c.next_line.new.self _ _ c.in-Ok-true.field-0 c.in-Ok-true.field-0-test c.in-Ok-true.ensures.moves) c.next_line.ensures.read_on (asks_nothing c.in-Ok-None.field-0 _ _ c.in-Ok-None.field-0-is c.in-Ok-None.ensures);
   ended = c.next_line.ensures.ended ∙ c.loop-end.invariant.ended;
+  behind = omega (arith, c.in-Ok-true.ensures.onward c.in-Ok-true.field-0-test);
 }
 
 pub returns-in-Ok-Some-clause-read_on : goal.returns-in-Ok-Some-clause-read_on

@@ -1,4 +1,4 @@
-use Rattle.std.proofs.Common.{◌≡◌, ◌-◌, IsTrue}
+use Rattle.std.proofs.Common.{◌≡◌, ◌≤◌, ◌-◌, IsTrue}
 use Rattle.gtm_base.specs.Outside.{ReadOn}
 use Rattle.trace_reader.specs.Progress.{trace_left}
 use Rattle.trace_reader.proofs.reader.Reader.read_on.Given as goal
@@ -13,6 +13,7 @@ invariant-loop-end g l = record {
   read_on : ReadOn (g.F.Files.left l.fn.files) (g.F.Files.left l.files);
   left : trace_left l.self (g.F.Files.left l.files) ≡ trace_left l.fn.self (g.F.Files.left l.fn.files);
   ended : l.self.ended ≡ l.fn.self.ended;
+  behind : l.fn.self.position.before ≤ l.self.position.before;
 }
 
 abbrev pub decreases-loop-end : goal.decreases-loop-end
