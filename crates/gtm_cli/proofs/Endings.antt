@@ -6,14 +6,13 @@ use Rattle.gtm_base.specs.Outside.{Holdings, Holds, Lacks, and_then, TookFront}
 use Rattle.gtm_base.proofs.Pieces.{and_then-nil, front_none}
 use Rattle.gtm_base.specs.declared.status.Status.{Status}
 use Rattle.gtm_base.specs.declared.status.Status.TheVariants as status
-use Rattle.gtm_cli.specs.declared.export.Refusal.{Refusal}
 use Rattle.gtm_cli.specs.declared.failure.Failure.{Failure}
 use Rattle.gtm_cli.specs.declared.failure.Failure.TheVariants.{ExportUnread, TraceUnread, ExportRefused, TraceRefused, Unwritten, OutOfMemory}
 use Rattle.gtm_cli.specs.Answers.{ExportAnswer, TraceAnswer, WroteNothing, HasNoTrace, IsReported}
-use Rattle.gtm_cli.specs.Export.{first_broken}
+use Rattle.export_reader.specs.FirstBroken.{first_broken}
 use Rattle.gtm_cli.specs.Outcome.{status_of, status_unless, text_unless, model_text, IsModels, AcceptsExport, LacksOne}
 use Rattle.gtm_cli.specs.Run.{run_text}
-use Rattle.gtm_cli.specs.Trace.{trace_of}
+use Rattle.trace_reader.specs.Trace.{trace_of}
 use Rattle.gtm_cli.specs.Words.{Names}
 
 abbrev Ending : Type 0
@@ -32,24 +31,27 @@ not_lacking held name bytes holds lacks =
     let none : Some bytes ≡ None = sym holds.bytes_are ∙ ap (λ h. h name) one ∙ lacks.absent in
     cc none
 
+some_same : {A : Type 0} {x y : A} → Some x ≡ Some y → x ≡ y
+some_same same = cc
+
 not_risen : (before now : ℕ) → before ≡ 0 → now ≡ 0 → Rose before now → ⊥
 not_risen before now zero still rose = absurd (omega arith)
 
 export_refused_of : (r : Ending) (e : List ℕ) (rule : ℕ) (path : List ℕ) → status_of r ≡ status.ExportRefused rule path → ExportAnswer e r
-    → first_broken e ≡ Some (record { rule = rule; path = path })
+    → first_broken e ≡ Some (rule, path)
 export_refused_of (Ok done) e rule path is answer = absurd (cc is)
 export_refused_of (Err ExportUnread) e rule path is answer = absurd (cc is)
 export_refused_of (Err TraceUnread) e rule path is answer = absurd (cc is)
 export_refused_of (Err (ExportRefused refusal)) e rule path is answer =
     let same_rule : refusal.rule ≡ rule = cc is in
     let same_path : refusal.path ≡ path = cc is in
-    answer ∙ (λ i. Some (record { rule = same_rule i; path = same_path i }))
+    answer ∙ (λ i. Some (same_rule i, same_path i))
 export_refused_of (Err (TraceRefused bad)) e rule path is answer = absurd (cc is)
 export_refused_of (Err Unwritten) e rule path is answer = absurd (cc is)
 export_refused_of (Err OutOfMemory) e rule path is answer = absurd (cc is)
 
 pub export_refused : (r : Ending) (s : Status) (e : List ℕ) (rule : ℕ) (path : List ℕ) → IsReported r s → s ≡ status.ExportRefused rule path → ExportAnswer e r
-    → first_broken e ≡ Some (record { rule = rule; path = path })
+    → first_broken e ≡ Some (rule, path)
 export_refused r s e rule path reported is answer = export_refused_of r e rule path (told r s _ reported is (λ x. cc x)) answer
 
 trace_refused_of : (r : Ending) (e t : List ℕ) (line rule : ℕ) (old new : Option (List ℕ)) → status_of r ≡ status.TraceRefused line rule → ExportAnswer e r → TraceAnswer t r old new
@@ -70,25 +72,23 @@ pub trace_refused : (r : Ending) (s : Status) (e t : List ℕ) (line rule : ℕ)
 trace_refused r s e t line rule old new reported is export trace = trace_refused_of r e t line rule old new (told r s _ reported is (λ x. cc x)) export trace
 
 -- an export that breaks a rule is refused by it, or it was not read, or memory was wanting
-refuses_of : (r : Ending) (s : Status) (e : List ℕ) (refusal : Refusal) → s ≡ status_of r → first_broken e ≡ Some refusal → ExportAnswer e r → (IsErrOf r ExportUnread → ⊥)
-    → (s ≡ status.OutOfMemory) ⊎ (s ≡ status.ExportRefused refusal.rule refusal.path)
-refuses_of (Ok done) s e refusal is broken answer read = absurd (cc (broken, answer))
-refuses_of (Err ExportUnread) s e refusal is broken answer read = absurd (read refl)
-refuses_of (Err TraceUnread) s e refusal is broken answer read = absurd (cc (broken, answer))
-refuses_of (Err (ExportRefused other)) s e refusal is broken answer read =
-    let same : Some other ≡ Some refusal = sym answer ∙ broken in
-    let one : other ≡ refusal = cc in
-    inr (is ∙ ap (λ r. status.ExportRefused r.rule r.path) one)
-refuses_of (Err (TraceRefused bad)) s e refusal is broken answer read = absurd (cc (broken, answer))
-refuses_of (Err Unwritten) s e refusal is broken answer read = absurd (cc (broken, answer))
-refuses_of (Err OutOfMemory) s e refusal is broken answer read = inl is
+refuses_of : (r : Ending) (s : Status) (e : List ℕ) (rule : ℕ) (path : List ℕ) → s ≡ status_of r → first_broken e ≡ Some (rule, path) → ExportAnswer e r → (IsErrOf r ExportUnread → ⊥)
+    → (s ≡ status.OutOfMemory) ⊎ (s ≡ status.ExportRefused rule path)
+refuses_of (Ok done) s e rule path is broken answer read = absurd (cc (broken, answer))
+refuses_of (Err ExportUnread) s e rule path is broken answer read = absurd (read refl)
+refuses_of (Err TraceUnread) s e rule path is broken answer read = absurd (cc (broken, answer))
+refuses_of (Err (ExportRefused other)) s e rule path is broken answer read =
+    inr (is ∙ ap (λ refusal. status.ExportRefused refusal.0 refusal.1) (some_same (sym answer ∙ broken)))
+refuses_of (Err (TraceRefused bad)) s e rule path is broken answer read = absurd (cc (broken, answer))
+refuses_of (Err Unwritten) s e rule path is broken answer read = absurd (cc (broken, answer))
+refuses_of (Err OutOfMemory) s e rule path is broken answer read = inl is
 
-pub refuses_export : (r : Ending) (s : Status) (held : Option Holdings) (name e : List ℕ) (refusal : Refusal) (before now : ℕ) → IsReported r s → before ≡ 0 → now ≡ 0
-    → Holds held name e → first_broken e ≡ Some refusal → ExportAnswer e r → (IsErrOf r ExportUnread → Rose before now ⊎ Lacks held name)
-    → (s ≡ status.OutOfMemory) ⊎ (s ≡ status.ExportRefused refusal.rule refusal.path)
-refuses_export r s held name e refusal before now (inr memory) zero still holds broken answer unread = inl memory
-refuses_export r s held name e refusal before now (inl is) zero still holds broken answer unread =
-    refuses_of r s e refusal is broken answer (λ u. elim (unread u) [ inl rose ↦ not_risen before now zero still rose | inr lacks ↦ not_lacking held name e holds lacks ])
+pub refuses_export : (r : Ending) (s : Status) (held : Option Holdings) (name e : List ℕ) (rule : ℕ) (path : List ℕ) (before now : ℕ) → IsReported r s → before ≡ 0 → now ≡ 0
+    → Holds held name e → first_broken e ≡ Some (rule, path) → ExportAnswer e r → (IsErrOf r ExportUnread → Rose before now ⊎ Lacks held name)
+    → (s ≡ status.OutOfMemory) ⊎ (s ≡ status.ExportRefused rule path)
+refuses_export r s held name e rule path before now (inr memory) zero still holds broken answer unread = inl memory
+refuses_export r s held name e rule path before now (inl is) zero still holds broken answer unread =
+    refuses_of r s e rule path is broken answer (λ u. elim (unread u) [ inl rose ↦ not_risen before now zero still rose | inr lacks ↦ not_lacking held name e holds lacks ])
 
 -- files that tell what they lack hold an export that was read, and it was accepted
 accepted : (held : Option Holdings) (names : Names) (lacks : Lacks held names.trace) (bytes : Option (List ℕ)) → lacks.holdings names.export ≡ bytes
@@ -124,13 +124,13 @@ pub file_fault : (r : Ending) (s : Status) (held : Option Holdings) (names : Nam
 file_fault r s held names before now reported zero is answer export trace missing =
     file_fault_of r held names before now zero (told r s _ reported is (λ x. cc x)) answer export trace missing
 
-front_of : (broken : Option Refusal) (text : List ℕ) (old new : Option (List ℕ)) → ((refusal : Refusal) → broken ≡ Some refusal → new ≡ old) → TookFront old new text
+front_of : (broken : Option (ℕ × List ℕ)) (text : List ℕ) (old new : Option (List ℕ)) → ((refusal : ℕ × List ℕ) → broken ≡ Some refusal → new ≡ old) → TookFront old new text
     → TookFront old new (text_unless broken text)
 front_of None text old new nothing front = front
 front_of (Some refusal) text old new nothing front = rw (nothing refusal refl) (front_none old [])
 
 -- a front of the text of the trace is one of the model's text, since nothing is written where the export is refused
-pub front_of_model : (e t : List ℕ) (old new : Option (List ℕ)) → ((refusal : Refusal) → first_broken e ≡ Some refusal → new ≡ old) → TookFront old new (run_text (trace_of t))
+pub front_of_model : (e t : List ℕ) (old new : Option (List ℕ)) → ((refusal : ℕ × List ℕ) → first_broken e ≡ Some refusal → new ≡ old) → TookFront old new (run_text (trace_of t))
     → TookFront old new (model_text e t)
 front_of_model e t old new nothing front = front_of (first_broken e) (run_text (trace_of t)) old new nothing front
 

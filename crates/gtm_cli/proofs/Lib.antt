@@ -1,11 +1,12 @@
 pub mod Endings
 pub mod EnoughRead
 pub mod HandedNames
+pub mod InTurns
+pub mod JobTurns
 pub mod Joined
-pub mod JsonTrees
-pub mod LineEnds
 pub mod LogLines
-pub mod RunLaws
-pub mod Turns
+pub mod NextValues
+pub mod StepTurns
+pub mod TraceSteps
 pub mod Unfailed
-pub mod Walk
+pub mod Way

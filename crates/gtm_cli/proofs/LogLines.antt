@@ -6,8 +6,9 @@ use Rattle.gtm_base.proofs.Pieces.{and_then-append, front_of_more, front_after}
 use Rattle.run_log.specs.Lines.{LogLine, message, line_bytes}
 use Rattle.gtm_data.specs.Tree.{Tree}
 use Rattle.data_layer.specs.Layer.{LayerState, empty_layer, is_ignored}
-use Rattle.gtm_cli.specs.Trace.{event_name, push}
-use Rattle.gtm_cli.specs.Run.{State, step_lines, event_lines, lines_text}
+use Rattle.gtm_cli.specs.Jobs.{State, take_message, event_lines}
+use Rattle.gtm_cli.specs.Messages.{event_name}
+use Rattle.gtm_cli.specs.Run.{lines_text}
 
 -- a line and then the others
 pub line_then_lines : (old middle new : Option (List ℕ)) (line : LogLine) (more : List LogLine)
@@ -33,10 +34,18 @@ pub model_is : (layer : Option LayerState) (value : Tree) → IsSome layer → I
 model_is None value live is = absurd (cc live)
 model_is (Some layer) value live is = is
 
--- the message of a push, and a front of the lines behind it
-pub push_front : (state : State) (value : Tree) (ignored : Bool) (name old middle new : Option (List ℕ)) → ignored ≡ is_ignored value → name ≡ event_name value
+-- the line of a message, and a front of the lines behind it
+pub message_front : (state : State) (value : Tree) (ignored : Bool) (name old middle new : Option (List ℕ)) → ignored ≡ is_ignored value → name ≡ event_name value
     → middle ≡ and_then old (line_bytes (message value ignored))
     → TookFront middle new (lines_text (event_lines (state.events + 1) (if ignored then None else name)))
-    → TookFront old new (lines_text (step_lines state (push value)))
-push_front state value ignored name old middle new is name_is first some =
+    → TookFront old new (lines_text (take_message state value).lines)
+message_front state value ignored name old middle new is name_is first some =
     line_then_front old middle new _ _ (rw is at first) (rw (is, name_is) at some)
+
+-- the line of a message, and those behind it
+pub message_lines : (state : State) (value : Tree) (ignored : Bool) (name old middle new : Option (List ℕ)) → ignored ≡ is_ignored value → name ≡ event_name value
+    → middle ≡ and_then old (line_bytes (message value ignored))
+    → new ≡ and_then middle (lines_text (event_lines (state.events + 1) (if ignored then None else name)))
+    → new ≡ and_then old (lines_text (take_message state value).lines)
+message_lines state value ignored name old middle new is name_is first rest =
+    line_then_lines old middle new _ _ (rw is at first) (rw (is, name_is) at rest)

@@ -5,15 +5,16 @@ use Rattle.gtm_base.specs.declared.status.Status.{Status}
 use Rattle.gtm_base.specs.declared.status.Status.TheVariants as status
 use Rattle.gtm_cli.specs.declared.failure.Failure.{Failure}
 use Rattle.gtm_cli.specs.declared.failure.Failure.TheVariants.{ExportUnread, TraceUnread, ExportRefused, TraceRefused, Unwritten, OutOfMemory}
-use Rattle.gtm_cli.specs.Export.{first_broken}
+use Rattle.export_reader.specs.FirstBroken.{first_broken}
 use Rattle.gtm_cli.specs.Outcome.{status_of}
-use Rattle.gtm_cli.specs.Trace.{trace_of}
+use Rattle.trace_reader.specs.Trace.{trace_of}
 use Rattle.gtm_cli.specs.Run.{run_text}
+use Rattle.gtm_cli.specs.TraceRead.{bad_line_of}
 
 -- a run that does not end at the export accepts it, and one that refuses it names its first broken rule
 abbrev pub ExportAnswer : List ℕ → Result Unit Failure → Type 0
 ExportAnswer export (Ok done) = first_broken export ≡ None
-ExportAnswer export (Err (ExportRefused refusal)) = first_broken export ≡ Some refusal
+ExportAnswer export (Err (ExportRefused refusal)) = first_broken export ≡ Some (refusal.rule, refusal.path)
 ExportAnswer export (Err ExportUnread) = Unit {0}
 ExportAnswer export (Err TraceUnread) = first_broken export ≡ None
 ExportAnswer export (Err (TraceRefused bad)) = first_broken export ≡ None
@@ -23,7 +24,7 @@ ExportAnswer export (Err OutOfMemory) = Unit {0}
 -- a run that comes to the end of the trace, or to its first bad line, wrote the whole text
 abbrev pub TraceAnswer : List ℕ → Result Unit Failure → Option (List ℕ) → Option (List ℕ) → Type 0
 TraceAnswer trace (Ok done) old new = ((trace_of trace).refusal ≡ None) × (new ≡ and_then old (run_text (trace_of trace)))
-TraceAnswer trace (Err (TraceRefused bad)) old new = ((trace_of trace).refusal ≡ Some bad) × (new ≡ and_then old (run_text (trace_of trace)))
+TraceAnswer trace (Err (TraceRefused bad)) old new = ((trace_of trace).refusal ≡ Some (bad_line_of bad)) × (new ≡ and_then old (run_text (trace_of trace)))
 TraceAnswer trace (Err ExportUnread) old new = Unit {0}
 TraceAnswer trace (Err (ExportRefused refusal)) old new = Unit {0}
 TraceAnswer trace (Err TraceUnread) old new = Unit {0}

@@ -3,13 +3,11 @@ use Rattle.std.specs.Prelude.{◌≡◌, ◌⊎◌, ℕ, List, [], ◌++◌, tak
 use Rattle.gtm_base.specs.Outside.{Holdings, Holds, Lacks, and_then}
 use Rattle.gtm_base.specs.declared.status.Status.{Status}
 use Rattle.gtm_base.specs.declared.status.Status.TheVariants as status
-use Rattle.gtm_cli.specs.declared.export.Refusal.{Refusal}
-use Rattle.gtm_cli.specs.declared.steps.BadLine.{BadLine}
 use Rattle.gtm_cli.specs.declared.failure.Failure.{Failure}
 use Rattle.gtm_cli.specs.declared.failure.Failure.TheVariants.{ExportUnread, TraceUnread, ExportRefused, TraceRefused, Unwritten, OutOfMemory}
-use Rattle.gtm_cli.specs.Export.{first_broken}
+use Rattle.export_reader.specs.FirstBroken.{first_broken}
 use Rattle.gtm_cli.specs.Words.{Names}
-use Rattle.gtm_cli.specs.Trace.{trace_of}
+use Rattle.trace_reader.specs.Trace.{BadLine, trace_of}
 use Rattle.gtm_cli.specs.Run.{run_text}
 
 -- the status of a run, from how it failed
@@ -23,8 +21,8 @@ status_of (Err Unwritten) = status.SinkFault
 status_of (Err OutOfMemory) = status.OutOfMemory
 
 -- the status of a run: its export's refusal, else its trace's, else done
-abbrev pub status_unless : Option Refusal → Option BadLine → Status
-status_unless (Some refusal) bad = status.ExportRefused refusal.rule refusal.path
+abbrev pub status_unless : Option (ℕ × List ℕ) → Option BadLine → Status
+status_unless (Some refusal) bad = status.ExportRefused refusal.0 refusal.1
 status_unless None (Some bad) = status.TraceRefused bad.line bad.rule
 status_unless None None = status.Done
 
@@ -33,7 +31,7 @@ abbrev pub model_status : List ℕ → List ℕ → Status
 model_status export trace = status_unless (first_broken export) (trace_of trace).refusal
 
 -- the text, where the export is not refused
-abbrev pub text_unless : Option Refusal → List ℕ → List ℕ
+abbrev pub text_unless : Option (ℕ × List ℕ) → List ℕ → List ℕ
 text_unless (Some refusal) text = []
 text_unless None text = text
 

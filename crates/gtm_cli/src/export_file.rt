@@ -3,12 +3,15 @@ ghost use Rattle.std.specs.Str.{chars};
 ghost use Rattle.gtm_base.specs.Causes.{Rose};
 ghost use Rattle.gtm_base.specs.Outside.{Holds, Lacks, AddsName};
 ghost use Rattle.gtm_cli.specs.Answers.{ExportAnswer, IsOfExport, IsReadingFailure};
-ghost use Rattle.gtm_cli.specs.Export.{first_broken};
+ghost use Rattle.export_reader.specs.FirstBroken.{first_broken};
 
-use crate::export::{MAX_EXPORT, first_broken};
-use crate::failure::Failure;
+use crate::failure::{Failure, Refusal};
+use export_reader::{ExportEnd, read_export};
 use gtm_base::{Files, ReadEnd, read_whole};
 use std::alloc::Global;
+
+// An export of more bytes is refused, so no more are read.
+const MOST_READ: u64 = 8_388_609;
 
 /// Opens and reads an export, to its end or to the first byte that makes it too long, and looks for the first rule that it breaks.
 pub fn accept_export<F: Files>(alloc: Global, files: &mut F, name: &str) -> Result<(), Failure>
@@ -22,9 +25,13 @@ pub fn accept_export<F: Files>(alloc: Global, files: &mut F, name: &str) -> Resu
     ensures kept { OnOk result (F.faults files.new ≡ F.faults files.old) }
 {
     let bytes = export_bytes(alloc, files, name)?;
-    match first_broken(alloc, bytes.as_slice())? {
-        None => Ok(()),
-        Some(refusal) => Err(Failure::ExportRefused(refusal)),
+    // No entry is run yet, so the container holds nothing that the run needs.
+    match read_export(alloc, bytes.as_slice()) {
+        Ok(_) => Ok(()),
+        Err(ExportEnd::Refused { rule, path }) => {
+            Err(Failure::ExportRefused(Refusal { rule, path }))
+        },
+        Err(ExportEnd::OutOfMemory) => Err(Failure::OutOfMemory),
     }
 }
 
@@ -42,7 +49,7 @@ fn export_bytes<F: Files>(alloc: Global, files: &mut F, name: &str) -> Result<Ve
     if files.open(name).is_err() {
         return Err(Failure::ExportUnread);
     }
-    match read_whole(alloc, files, MAX_EXPORT + 1) {
+    match read_whole(alloc, files, MOST_READ) {
         Ok(bytes) => Ok(bytes),
         Err(ReadEnd::OutOfMemory) => Err(Failure::OutOfMemory),
         Err(ReadEnd::FileFailed) => Err(Failure::ExportUnread),

@@ -1,10 +1,22 @@
 ghost use Rattle.std.specs.Prelude.{◌≡◌};
 ghost use Rattle.gtm_cli.specs.Outcome.{status_of};
 
-use crate::export::Refusal;
-use crate::steps::BadLine;
-use gtm_base::{OutOfMemory, Status};
+use gtm_base::{OutOfMemory, Status, Text};
 use run_log::LineEnd;
+
+/// A rule that an export breaks, and the path at which it first does, a JSON pointer.
+#[derive(Debug, Drop)]
+pub struct Refusal {
+    pub rule: u8,
+    pub path: Text,
+}
+
+/// A line of a trace that is refused: its number, from 1, and the least rule that it breaks.
+#[derive(Clone, Copy, Debug, PartialEq, Eq)]
+pub struct BadLine {
+    pub line: u64,
+    pub rule: u8,
+}
 
 /// Why a run ended before its whole text was written.
 #[derive(Drop)]

@@ -1,17 +1,102 @@
-ghost use Rattle.std.specs.Prelude.{◌≡◌, ◌<◌, ◌≤◌, ◌∷◌, length, drop};
-ghost use Rattle.gtm_cli.specs.Trace.{lines};
+ghost use Rattle.std.specs.Prelude.{◌≡◌, ◌≤◌, OnOk, IsErrOf};
+ghost use Rattle.gtm_base.specs.Causes.{Rose};
+ghost use Rattle.gtm_base.specs.Outside.{and_then, TookFront};
+ghost use Rattle.gtm_cli.specs.Run.{counts_of};
+ghost use Rattle.gtm_data.specs.Tree.{tree_of};
+ghost use Rattle.run_log.specs.Lines.{message, command, event, model, finish, line_bytes};
 
-use memchr::memchr;
+use gtm_base::{Sink, Text};
+use gtm_data::{Data, copy};
+use run_log::{Line, LineEnd, put_line};
+use std::alloc::Global;
 
-/// The first line without its LF, and how many bytes it has with it.
-pub fn first_line(bytes: &[u8]) -> (&[u8], usize)
-    requires { 0 < length bytes.now }
-    ensures line { lines bytes.now ≡ record { text = result.0.now; size = result.1 } ∷ lines (drop result.1 bytes.now) }
-    ensures some { 0 < result.1 }
-    ensures within { result.1 ≤ length bytes.now }
+/// Writes the line of a message.
+pub fn put_message<S: Sink>(
+    alloc: Global,
+    value: Data,
+    ignored: bool,
+    out: &mut S,
+) -> Result<(), LineEnd>
+    ensures lines { OnOk result (S.taken out.new ≡ and_then (S.taken out.old) (line_bytes (message (tree_of value) ignored))) }
+    ensures front { TookFront (S.taken out.old) (S.taken out.new) (line_bytes (message (tree_of value) ignored)) }
+    ensures later { S.faults out.old ≤ S.faults out.new }
+    ensures failed { IsErrOf result LineEnd.SinkFault → Rose (S.faults out.old) (S.faults out.new) }
+    ensures kept { OnOk result (S.faults out.new ≡ S.faults out.old) }
 {
-    match memchr(b'\n', bytes) {
-        Some(at) => (&bytes[..at], at + 1),
-        None => (bytes, bytes.len()),
-    }
+    put_line(alloc, &Line::Message { value, ignored }, out)
+}
+
+/// Writes the line of a command array.
+pub fn put_command<S: Sink>(
+    alloc: Global,
+    value: Data,
+    ignored: bool,
+    out: &mut S,
+) -> Result<(), LineEnd>
+    ensures lines { OnOk result (S.taken out.new ≡ and_then (S.taken out.old) (line_bytes (command (tree_of value) ignored))) }
+    ensures front { TookFront (S.taken out.old) (S.taken out.new) (line_bytes (command (tree_of value) ignored)) }
+    ensures later { S.faults out.old ≤ S.faults out.new }
+    ensures failed { IsErrOf result LineEnd.SinkFault → Rose (S.faults out.old) (S.faults out.new) }
+    ensures kept { OnOk result (S.faults out.new ≡ S.faults out.old) }
+{
+    put_line(alloc, &Line::Command { value, ignored }, out)
+}
+
+/// Writes the line of an event.
+pub fn put_event<S: Sink>(
+    alloc: Global,
+    number: u64,
+    name: Text,
+    out: &mut S,
+) -> Result<(), LineEnd>
+    ensures lines { OnOk result (S.taken out.new ≡ and_then (S.taken out.old) (line_bytes (event number name))) }
+    ensures front { TookFront (S.taken out.old) (S.taken out.new) (line_bytes (event number name)) }
+    ensures later { S.faults out.old ≤ S.faults out.new }
+    ensures failed { IsErrOf result LineEnd.SinkFault → Rose (S.faults out.old) (S.faults out.new) }
+    ensures kept { OnOk result (S.faults out.new ≡ S.faults out.old) }
+{
+    let line = Line::Event {
+        event: number,
+        name,
+    };
+    put_line(alloc, &line, out)
+}
+
+/// Writes the line of the model.
+pub fn put_model<S: Sink>(alloc: Global, value: &Data, out: &mut S) -> Result<(), LineEnd>
+    ensures lines { OnOk result (S.taken out.new ≡ and_then (S.taken out.old) (line_bytes (model (tree_of value.now)))) }
+    ensures front { TookFront (S.taken out.old) (S.taken out.new) (line_bytes (model (tree_of value.now))) }
+    ensures later { S.faults out.old ≤ S.faults out.new }
+    ensures failed { IsErrOf result LineEnd.SinkFault → Rose (S.faults out.old) (S.faults out.new) }
+    ensures kept { OnOk result (S.faults out.new ≡ S.faults out.old) }
+{
+    let value = copy(alloc, value)?;
+    put_line(alloc, &Line::Model { value }, out)
+}
+
+/// Writes the last line. No tag starts yet.
+pub fn put_end<S: Sink>(
+    alloc: Global,
+    steps: u64,
+    jobs: u64,
+    events: u64,
+    out: &mut S,
+) -> Result<(), LineEnd>
+    ensures lines { OnOk result (S.taken out.new ≡ and_then (S.taken out.old) (line_bytes (finish (counts_of steps jobs events)))) }
+    ensures front { TookFront (S.taken out.old) (S.taken out.new) (line_bytes (finish (counts_of steps jobs events))) }
+    ensures later { S.faults out.old ≤ S.faults out.new }
+    ensures failed { IsErrOf result LineEnd.SinkFault → Rose (S.faults out.old) (S.faults out.new) }
+    ensures kept { OnOk result (S.faults out.new ≡ S.faults out.old) }
+{
+    let end = Line::End {
+        steps,
+        jobs,
+        events,
+        starts: 0,
+        ok: 0,
+        fail: 0,
+        denied: 0,
+        faults: 0,
+    };
+    put_line(alloc, &end, out)
 }

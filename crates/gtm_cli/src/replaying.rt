@@ -3,18 +3,18 @@ ghost use Rattle.std.specs.Str.{chars};
 ghost use Rattle.gtm_base.specs.Causes.{Rose};
 ghost use Rattle.gtm_base.specs.Outside.{Holds, Lacks, AddsName, TookFront};
 ghost use Rattle.gtm_cli.specs.Answers.{ExportAnswer, TraceAnswer, WroteNothing, IsOfTrace, IsUnreadTrace, HasNoTrace};
-ghost use Rattle.gtm_cli.specs.declared.export.Refusal.{Refusal};
-ghost use Rattle.gtm_cli.specs.Export.{first_broken};
+ghost use Rattle.export_reader.specs.FirstBroken.{first_broken};
 ghost use Rattle.gtm_cli.specs.Outcome.{LacksOne, Handed, status_of, model_text};
 ghost use Rattle.gtm_cli.specs.Report.{LastHanded};
 ghost use Rattle.gtm_cli.specs.Run.{run_text};
-ghost use Rattle.gtm_cli.specs.Trace.{trace_of};
+ghost use Rattle.gtm_cli.specs.TraceRead.{trace_in};
+ghost use Rattle.trace_reader.specs.Trace.{trace_of};
 
 use crate::export_file::accept_export;
 use crate::failure::Failure;
 use crate::running::run;
-use crate::trace_file::read_trace;
-use gtm_base::{Files, ReadEnd, Sink};
+use crate::trace_file::{TraceRead, read_trace};
+use gtm_base::{Files, Sink};
 use std::alloc::Global;
 
 /// Reads the export and, where it breaks no rule, runs the trace.
@@ -29,7 +29,7 @@ pub fn run_files<F: Files, S: Sink>(
     ensures trace { (t : List ℕ) → Holds (F.held files.old) (chars trace.now) t → TraceAnswer t result (S.taken out.old) (S.taken out.new) }
     ensures front { (t : List ℕ) → Holds (F.held files.old) (chars trace.now) t → TookFront (S.taken out.old) (S.taken out.new) (run_text (trace_of t)) }
     ensures nothing { WroteNothing result (S.taken out.old) (S.taken out.new) }
-    ensures refused { (e : List ℕ) (refusal : Refusal) → Holds (F.held files.old) (chars export.now) e → first_broken e ≡ Some refusal → S.taken out.new ≡ S.taken out.old }
+    ensures refused { (e : List ℕ) (refusal : ℕ × List ℕ) → Holds (F.held files.old) (chars export.now) e → first_broken e ≡ Some refusal → S.taken out.new ≡ S.taken out.old }
     ensures export_unread { IsErrOf result Failure.ExportUnread → Rose (F.faults files.old) (F.faults files.new) ⊎ Lacks (F.held files.old) (chars export.now) }
     ensures trace_unread { IsErrOf result Failure.TraceUnread → Rose (F.faults files.old) (F.faults files.new) ⊎ Lacks (F.held files.old) (chars trace.now) }
     ensures unwritten { IsErrOf result Failure.Unwritten → Rose (S.faults out.old) (S.faults out.new) }
@@ -43,7 +43,7 @@ pub fn run_files<F: Files, S: Sink>(
     run_trace(alloc, trace, files, out)
 }
 
-// Opens and reads a trace, as far as its rules need it, and runs it.
+// Opens and reads a trace, and runs it.
 fn run_trace<F: Files, S: Sink>(
     alloc: Global,
     name: &str,
@@ -61,30 +61,26 @@ fn run_trace<F: Files, S: Sink>(
     ensures later { F.faults files.old ≤ F.faults files.new }
     ensures kept { OnOk result ((F.faults files.new ≡ F.faults files.old) × (S.faults out.new ≡ S.faults out.old)) }
 {
-    let bytes = trace_bytes(alloc, files, name)?;
-    match run(alloc, bytes.as_slice(), out)? {
+    let read = open_trace(alloc, files, name)?;
+    match run(alloc, read, out)? {
         None => Ok(()),
         Some(bad) => Err(Failure::TraceRefused(bad)),
     }
 }
 
-// The bytes of a trace, as far as its rules need them.
-fn trace_bytes<F: Files>(alloc: Global, files: &mut F, name: &str) -> Result<Vec<u8>, Failure>
-    ensures bytes { IfOk result (λ bytes. (t : List ℕ) → Holds (F.held files.old) (chars name.now) t → trace_of bytes.items ≡ trace_of t) }
-    ensures within { IfOk result (λ bytes. vec_len bytes ≤ 67108865) }
+// Opens a trace, and reads its steps.
+fn open_trace<F: Files>(alloc: Global, files: &mut F, name: &str) -> Result<TraceRead, Failure>
+    ensures trace { IfOk result (λ read. (t : List ℕ) → Holds (F.held files.old) (chars name.now) t → trace_of t ≡ trace_in read) }
+    ensures few { IfOk result (λ read. vec_len read.steps ≤ 67108864) }
     ensures ends { IfErr result IsUnreadTrace }
     ensures missing { Lacks (F.held files.old) (chars name.now) → IsErr result }
     ensures unread { IsErrOf result Failure.TraceUnread → Rose (F.faults files.old) (F.faults files.new) ⊎ Lacks (F.held files.old) (chars name.now) }
     ensures names { AddsName (F.names files.old) (F.names files.new) (chars name.now) }
     ensures later { F.faults files.old ≤ F.faults files.new }
-    ensures kept { OnOk result (F.faults files.new ≡ F.faults files.old) }
+    ensures kept { IfOk result (λ read. read.refusal ≡ None → F.faults files.new ≡ F.faults files.old) }
 {
     if files.open(name).is_err() {
         return Err(Failure::TraceUnread);
     }
-    match read_trace(alloc, files) {
-        Ok(bytes) => Ok(bytes),
-        Err(ReadEnd::OutOfMemory) => Err(Failure::OutOfMemory),
-        Err(ReadEnd::FileFailed) => Err(Failure::TraceUnread),
-    }
+    read_trace(alloc, files)
 }

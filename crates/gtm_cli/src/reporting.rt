@@ -5,9 +5,7 @@ ghost use Rattle.gtm_cli.specs.Report.{TookLine, unread_name, reason, unread_tex
 ghost use Rattle.gtm_base.specs.Ascii.{is_all_ascii};
 ghost use Rattle.gtm_base.specs.Outside.{and_then, TookFront};
 
-use crate::export::Refusal;
-use crate::failure::{Failure, status_of};
-use crate::steps::BadLine;
+use crate::failure::{BadLine, Failure, Refusal, status_of};
 use gtm_base::{OutOfMemory, Sink, Status, Text, put};
 use gtm_data::write_quoted;
 use std::alloc::Global;

@@ -2,10 +2,9 @@ ghost use Rattle.std.specs.Prelude.{◌≡◌, ◌<◌, ◌⊎◌, ◌↔◌, �
 ghost use Rattle.gtm_base.specs.Outside.{Holds, Lacks, TookFront, and_then};
 ghost use Rattle.gtm_cli.specs.Report.{Reports};
 ghost use Rattle.gtm_cli.specs.Run.{run_text};
-ghost use Rattle.gtm_cli.specs.declared.export.Refusal.{Refusal};
-ghost use Rattle.gtm_cli.specs.Export.{first_broken};
+ghost use Rattle.export_reader.specs.FirstBroken.{first_broken};
 ghost use Rattle.gtm_cli.specs.Outcome.{IsModels, LacksOne, Handed, model_text};
-ghost use Rattle.gtm_cli.specs.Trace.{trace_of};
+ghost use Rattle.trace_reader.specs.Trace.{trace_of};
 ghost use Rattle.gtm_cli.specs.Words.{names_in};
 
 use crate::replaying::run_files;
@@ -49,9 +48,9 @@ pub fn replay<F: Files, S: Sink>(
     ensures usage { (result ≡ Status.Usage) ↔ (names_in words.now ≡ None) }
     ensures file_fault { result ≡ Status.FileFault → (0 < F.faults files.new) ⊎ IfSome (names_in words.now) (LacksOne (F.held files.old)) }
     ensures export_refused { IfSome (names_in words.now) (λ names. (rule : ℕ) (path e : List ℕ) → result ≡ Status.ExportRefused rule path
-        → Holds (F.held files.old) names.export e → first_broken e ≡ Some (record { rule = rule; path = path })) }
-    ensures refuses_export { IfSome (names_in words.now) (λ names. (refusal : Refusal) (e : List ℕ) → Holds (F.held files.old) names.export e → first_broken e ≡ Some refusal
-        → F.faults files.new ≡ 0 → (result ≡ Status.OutOfMemory) ⊎ (result ≡ Status.ExportRefused refusal.rule refusal.path)) }
+        → Holds (F.held files.old) names.export e → first_broken e ≡ Some (rule, path)) }
+    ensures refuses_export { IfSome (names_in words.now) (λ names. (rule : ℕ) (path e : List ℕ) → Holds (F.held files.old) names.export e → first_broken e ≡ Some (rule, path)
+        → F.faults files.new ≡ 0 → (result ≡ Status.OutOfMemory) ⊎ (result ≡ Status.ExportRefused rule path)) }
     ensures trace_refused { IfSome (names_in words.now) (λ names. (line rule : ℕ) (e t : List ℕ) → result ≡ Status.TraceRefused line rule
         → Holds (F.held files.old) names.export e → Holds (F.held files.old) names.trace t
         → (first_broken e ≡ None) × ((trace_of t).refusal ≡ Some (record { line = line; rule = rule }))) }

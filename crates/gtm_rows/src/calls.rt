@@ -99,6 +99,7 @@ fn layers_and_lines(rt: HostRuntime) -> Result<(), Fail> {
     let mut layer = Layer::new(alloc);
     assert!(rt; layer.take(&message)?);
     assert!(rt; !layer.take(&Data::Null)?);
+    assert!(rt; !layer.command(&Data::Null)?);
     match layer.get("k", 1) {
         Some(Data::Whole(number)) => assert_eq!(rt; *number, 5),
         _ => assert!(rt; false, "another value"),

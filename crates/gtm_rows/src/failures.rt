@@ -90,7 +90,7 @@ const ENDINGS: &[Ending] = &[
         files: 0,
         out: 0,
         status: 4,
-        err: b"gtm_replay: export: rule 29 at \"\"\n",
+        err: b"gtm_replay: export: rule 5 at \"/exportFormatVersion\"\n",
     },
     Ending {
         export: EXPORT,

@@ -10,6 +10,8 @@ pub use running::{Failing, NONE, Ran, run_over};
 #[cfg(test)]
 mod calls;
 #[cfg(test)]
+mod commands;
+#[cfg(test)]
 mod failures;
 #[cfg(test)]
 mod faults;

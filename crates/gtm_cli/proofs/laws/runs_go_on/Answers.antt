@@ -1,5 +1,5 @@
-use Rattle.gtm_cli.proofs.RunLaws.{run_lines-append}
+use Rattle.gtm_cli.proofs.InTurns.{runs_on}
 use Rattle.gtm_cli.proofs.laws.runs_go_on.Goals as goal
 
 pub returns : goal.returns
-returns c state first rest = run_lines-append state first rest
+returns c state first rest none = runs_on state first rest none

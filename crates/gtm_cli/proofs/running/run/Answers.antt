@@ -1,80 +1,53 @@
-use Rattle.std.proofs.Common.{◌∙◌, ◌+◌, rules, arith, sym, ap, drop, ℕ, List}
-use Rattle.gtm_base.proofs.Pieces.{slice_to_end}
-use Rattle.gtm_cli.specs.Trace.{TraceLine, lines, read_line}
-use Rattle.gtm_cli.specs.Run.{text_from}
-use Rattle.gtm_cli.proofs.Walk.{trace_from, trace_of-walk}
-use Rattle.gtm_cli.proofs.Turns.{empty_rest, refusal_kept, way_on, way_front, way_end, way_all, way_start, place_on}
+use Rattle.std.proofs.Common.{◌∙◌, ap, refl, arith, map, length}
+use Rattle.std.specs.Prelude.{option_map}
+use Rattle.gtm_base.proofs.Pieces.{front_none}
+use Rattle.gtm_cli.proofs.StepTurns.{turn, last_whole, last_bad, none_left}
+use Rattle.gtm_cli.proofs.Way.{way_on, way_end, way_front, way_all, way_done, way_is}
 use Rattle.gtm_cli.proofs.running.run.Goals as goal
+use Rattle.gtm_cli.specs.EngineState.{state_of}
+use Rattle.gtm_cli.specs.TraceRead.{bad_line_of}
+use Rattle.gtm_data.specs.Tree.{tree_of}
 
-abbrev line_at : List ℕ → ℕ → TraceLine
-line_at text size = record { text = text; size = size }
+pub loop-step-preserved : goal.loop-step-preserved
+loop-step-preserved g c =
+    let next = c.in-Some.ensures.steps in
+    let split = turn (state_of c.loop-step.engine) (state_of c.step.new.self) _ _ c.in-Some.step (option_map bad_line_of c.args.trace.refusal) next.0 c.in_ok-step.ensures.state (ap (map tree_of) c.loop-step.invariant.idle.none) in
+    record {
+      text = way_on _ _ _ _ _ _ _ split c.in_ok-step.ensures.lines c.loop-step.invariant.text;
+      idle = c.in_ok-step.ensures.idle;
+      steps = omega (arith, ap length next.0, c.in_ok-step.ensures.steps, c.loop-step.invariant.steps);
+      kept = c.in_ok-step.ensures.kept ∙ c.loop-step.invariant.kept;
+    }
 
-pub returns-in_err-rule-clause-front : goal.returns-in_err-rule-clause-front
-returns-in_err-rule-clause-front g c =
-    way_front (read_line c.loop-rest.before (line_at c.first_line-size.result.0.now c.first_line-size.result.1)) c.loop-rest.number
-    (trace_from (c.loop-rest.number + 1) (c.loop-rest.before + c.first_line-size.result.1) (lines (drop c.first_line-size.result.1 c.loop-rest.rest.now))) _ _ _ _ _
-    (rw c.first_line-size.ensures.line at c.loop-rest.invariant.text) c.in_err-rule.ensures.front
+pub returns-in_err-step-clause-front : goal.returns-in_err-step-clause-front
+returns-in_err-step-clause-front g c =
+    let next = c.in-Some.ensures.steps in
+    let split = turn (state_of c.loop-step.engine) _ _ _ c.in-Some.step (option_map bad_line_of c.args.trace.refusal) next.0 refl (ap (map tree_of) c.loop-step.invariant.idle.none) in
+    way_front _ _ _ _ _ _ _ split c.loop-step.invariant.text c.in_err-step.ensures.front
 
-pub returns-in-Some-clause-front : goal.returns-in-Some-clause-front
-returns-in-Some-clause-front g c =
-    way_front (read_line c.loop-rest.before (line_at c.first_line-size.result.0.now c.first_line-size.result.1)) c.loop-rest.number
-    (trace_from (c.loop-rest.number + 1) (c.loop-rest.before + c.first_line-size.result.1) (lines (drop c.first_line-size.result.1 c.loop-rest.rest.now))) _ _ _ _ _
-    (rw c.first_line-size.ensures.line at c.loop-rest.invariant.text) c.in_ok-rule.ensures.front
+pub returns-in_err-close-in-None-refusal-clause-front : goal.returns-in_err-close-in-None-refusal-clause-front
+returns-in_err-close-in-None-refusal-clause-front g c =
+    let none = none_left _ _ c.loop-step.step-iterator.rest.ok.0 c.in-None.ensures.steps.0 in
+    let left = last_whole (state_of c.loop-step.engine) _ c.args.trace.refusal none c.in-None-refusal.is in
+    way_end _ _ _ _ _ (way_is _ _ _ _ _ left c.loop-step.invariant.text) c.in_err-close-in-None-refusal.ensures.front
 
-pub returns-in_err-close-clause-front : goal.returns-in_err-close-clause-front
-unfolding lines
-returns-in_err-close-clause-front g c =
-    let none = empty_rest c.loop-rest.rest.now (sym c.is_empty.ensures ∙ c.loop-rest-test.false) in
-    way_end _ _ _ _ _ (rw none at c.loop-rest.invariant.text) c.in_err-close.ensures.front
+pub returns-in-None-refusal-clause-text : goal.returns-in-None-refusal-clause-text
+returns-in-None-refusal-clause-text g c =
+    let none = none_left _ _ c.loop-step.step-iterator.rest.ok.0 c.in-None.ensures.steps.0 in
+    let left = last_whole (state_of c.loop-step.engine) _ c.args.trace.refusal none c.in-None-refusal.is in
+    way_all _ _ _ _ _ (way_is _ _ _ _ _ left c.loop-step.invariant.text) c.in_ok-close-in-None-refusal.ensures.lines
 
-pub returns-clause-refusal : goal.returns-clause-refusal
-unfolding lines
-returns-clause-refusal g c =
-    let none = empty_rest c.loop-rest.rest.now (sym c.is_empty.ensures ∙ c.loop-rest-test.false) in
-    rw none at c.loop-rest.invariant.refusal
+pub returns-in-None-refusal-clause-front : goal.returns-in-None-refusal-clause-front
+returns-in-None-refusal-clause-front g c =
+    let none = none_left _ _ c.loop-step.step-iterator.rest.ok.0 c.in-None.ensures.steps.0 in
+    let left = last_whole (state_of c.loop-step.engine) _ c.args.trace.refusal none c.in-None-refusal.is in
+    way_end _ _ _ _ _ (way_is _ _ _ _ _ left c.loop-step.invariant.text) c.in_ok-close-in-None-refusal.ensures.front
 
 pub returns-clause-text : goal.returns-clause-text
-unfolding lines
 returns-clause-text g c =
-    let none = empty_rest c.loop-rest.rest.now (sym c.is_empty.ensures ∙ c.loop-rest-test.false) in
-    way_all _ _ _ _ _ (rw none at c.loop-rest.invariant.text) c.in_ok-close.ensures.lines
+    let none = none_left _ _ c.loop-step.step-iterator.rest.ok.0 c.in-None.ensures.steps.0 in
+    let left = last_bad (state_of c.loop-step.engine) _ c.args.trace.refusal c.in-Some-refusal.bad none c.in-Some-refusal.is in
+    way_done _ _ _ (way_is _ _ _ _ _ left c.loop-step.invariant.text)
 
 pub returns-clause-front : goal.returns-clause-front
-unfolding lines
-returns-clause-front g c =
-    let none = empty_rest c.loop-rest.rest.now (sym c.is_empty.ensures ∙ c.loop-rest-test.false) in
-    way_end _ _ _ _ _ (rw none at c.loop-rest.invariant.text) c.in_ok-close.ensures.front
-
-pub loop-rest-init : goal.loop-rest-init
-loop-rest-init g c =
-    let trace = c.args.trace.now in
-    record {
-      refusal = ap (λ t. t.refusal) (sym (trace_of-walk trace));
-      text = way_start _ _ _ (λ i. text_from (sym c.new-engine.ensures.state i) (trace_of-walk trace i));
-      live = search rules;
-      steps = search rules;
-      jobs = search rules;
-      events = search rules;
-      place = search rules;
-      room = search rules;
-      kept = search rules;
-    }
-
-pub loop-rest-preserved : goal.loop-rest-preserved
-loop-rest-preserved g c =
-    let size = c.first_line-size.result.1 in
-    let reading = read_line c.loop-rest.before (line_at c.first_line-size.result.0.now size) in
-    let number = c.loop-rest.number in
-    let rest = trace_from (number + 1) (c.loop-rest.before + size) (lines (drop size c.loop-rest.rest.now)) in
-    let on = rw c.in_default.is at c.in_ok-rule.ensures.line in
-    record {
-      refusal = rw slice_to_end (sym (refusal_kept reading number rest _ _ _ _ on) ∙ (rw c.first_line-size.ensures.line at c.loop-rest.invariant.refusal));
-      text = rw slice_to_end (way_on reading number rest _ _ _ _ _ _ on (rw c.first_line-size.ensures.line at c.loop-rest.invariant.text));
-      live = search rules;
-      steps = omega (arith, c.in_ok-rule.ensures.steps);
-      jobs = search rules;
-      events = search rules;
-      place = place_on c.loop-rest.rest.now c.loop-rest.before size _ c.first_line-size.ensures.within c.loop-rest.invariant.place;
-      room = omega arith;
-      kept = search rules;
-    }
+returns-clause-front g c = way_end _ _ _ _ _ c.loop-step.invariant.text (front_none _ _)

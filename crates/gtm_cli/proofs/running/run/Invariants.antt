@@ -1,26 +1,18 @@
-use Rattle.std.proofs.Common.{◌≡◌, ◌≤◌, ◌<◌, ◌+◌, length}
-use Rattle.std.specs.Prelude.{IsSome}
-use Rattle.data_layer.specs.Layer.{seen}
-use Rattle.gtm_cli.specs.Trace.{lines, trace_of}
-use Rattle.gtm_cli.proofs.Walk.{trace_from}
-use Rattle.gtm_cli.specs.Run.{text_from, run_text}
-use Rattle.gtm_cli.specs.StateOf.{state_of}
-use Rattle.gtm_cli.specs.Turn.{OnTheWay}
+use Rattle.std.proofs.Common.{◌≡◌, ◌≤◌, ◌+◌, length, map}
+use Rattle.std.specs.Prelude.{option_map}
+use Rattle.std.specs.Vec.Iter.{into_iter_items}
+use Rattle.gtm_cli.specs.EngineState.{state_of, IsIdle}
+use Rattle.gtm_cli.specs.Run.{run_text, text_from}
+use Rattle.gtm_cli.specs.TraceRead.{trace_in, bad_line_of}
+use Rattle.gtm_cli.specs.Way.{OnTheWay}
 use Rattle.gtm_cli.proofs.running.run.Given as goal
+use Rattle.trace_forms.specs.Views.{step_of}
 
-abbrev pub invariant-loop-rest : goal.invariant-loop-rest
-invariant-loop-rest g l = record {
-  refusal : (trace_from l.number l.before (lines l.rest)).refusal ≡ (trace_of l.fn.trace).refusal;
-  text : OnTheWay (g.S.Sink.taken l.fn.out) (g.S.Sink.taken l.out) (text_from (state_of l.engine) (trace_from l.number l.before (lines l.rest)))
-      (run_text (trace_of l.fn.trace));
-  live : IsSome (seen l.engine.layer);
-  steps : l.engine.steps < l.number;
-  jobs : l.engine.jobs ≡ l.engine.steps;
-  events : l.engine.events ≤ l.engine.steps;
-  place : l.before + length l.rest ≡ length l.fn.trace;
-  room : l.number ≤ l.before + 1;
+abbrev pub invariant-loop-step : goal.invariant-loop-step
+invariant-loop-step g l = record {
+  text : OnTheWay (g.S.Sink.taken l.fn.out) (g.S.Sink.taken l.out)
+      (text_from (state_of l.engine) (record { steps = map step_of (into_iter_items l.step-iterator); refusal = option_map bad_line_of l.refusal })) (run_text (trace_in l.fn.trace));
+  idle : IsIdle l.engine;
+  steps : l.engine.steps + length (into_iter_items l.step-iterator) ≤ 67108864;
   kept : g.S.Sink.faults l.out ≡ g.S.Sink.faults l.fn.out;
 }
-
-abbrev pub decreases-loop-rest : goal.decreases-loop-rest
-decreases-loop-rest g l = length l.rest

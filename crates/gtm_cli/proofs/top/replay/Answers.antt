@@ -9,8 +9,8 @@ returns-clause-trace_refused g c = rw c.in-Some.ensures.some (λ line rule e t i
     trace_refused _ _ e t line rule _ _ c.report.ensures.status is (c.run_files-ending.ensures.export e export) (c.run_files-ending.ensures.trace t trace))
 
 pub returns-clause-refuses_export : goal.returns-clause-refuses_export
-returns-clause-refuses_export g c = rw c.in-Some.ensures.some (λ refusal e holds broken still.
-    refuses_export _ _ _ _ e refusal _ _ c.report.ensures.status c.requires.files still holds broken (c.run_files-ending.ensures.export e holds) c.run_files-ending.ensures.export_unread)
+returns-clause-refuses_export g c = rw c.in-Some.ensures.some (λ rule path e holds broken still.
+    refuses_export _ _ _ _ e rule path _ _ c.report.ensures.status c.requires.files still holds broken (c.run_files-ending.ensures.export e holds) c.run_files-ending.ensures.export_unread)
 
 pub returns-clause-file_fault : goal.returns-clause-file_fault
 returns-clause-file_fault g c = rw c.in-Some.ensures.some (λ is.

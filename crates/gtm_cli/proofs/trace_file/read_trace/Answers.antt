@@ -1,28 +1,21 @@
-use Rattle.std.proofs.Common.{◌≡◌, ◌∙◌, ◌++◌, rules, arith, sym, ap, inl, inr, vec_len}
-use Rattle.gtm_base.proofs.Pieces.{read_further}
-use Rattle.gtm_cli.proofs.EnoughRead.{stopped, extended, unended-append}
+use Rattle.std.proofs.Common.{◌∙◌, ap, arith, [], ◌∷◌, length, length-append, refl}
+use Rattle.gtm_cli.proofs.TraceSteps.{kept_told, still_told}
 use Rattle.gtm_cli.proofs.trace_file.read_trace.Goals as goal
-use Rattle.gtm_cli.proofs.trace_file.read_trace.Goals.{then-loop-unfinished-test+else-len-le-MAX_TRACE, else-loop-unfinished-test}
 
-pub loop-unfinished-preserved : goal.loop-unfinished-preserved
-loop-unfinished-preserved g c =
-    let all : c.extend_from_slice.new.self.items ≡ c.loop-unfinished.bytes.items ++ c.in_ok-piece.piece.items =
-    extended c.extend_from_slice.result _ _ _ (sym c.is_err.ensures.value ∙ c.if-is_err.false) c.extend_from_slice.ensures.items ∙ ap (λ p. c.loop-unfinished.bytes.items ++ p) c.as_slice-in-loop-unfinished.ensures.value in
-    let len = extended c.extend_from_slice.result _ _ _ (sym c.is_err.ensures.value ∙ c.if-is_err.false) c.extend_from_slice.ensures.len in
+pub loop-step-preserved : goal.loop-step-preserved
+loop-step-preserved g c =
+    let before = c.loop-step.invariant in
+    let after = c.in-Ok-Some.ensures in
+    let keeps = c.in_ok-keep-in-Ok-Some.ensures in
+    let is = c.in-Ok-Some.field-0-is in
     record {
-      opened = search rules;
-      bytes = rw all (read_further _ _ _ _ _ c.loop-unfinished.invariant.bytes c.in_ok-piece.ensures.bytes);
-      unfinished = rw all (c.unended-unfinished.ensures.count ∙ (rw (c.as_slice.ensures.value, c.loop-unfinished.invariant.unfinished) (sym (unended-append 0 c.loop-unfinished.bytes.items c.in_ok-piece.piece.items))));
-      line = omega (arith, c.unended-unfinished.ensures.within, c.as_slice.ensures.len, c.in_ok-piece.ensures.within, c.room_for-room.ensures.line);
-      within = omega (arith, len, c.as_slice-in-loop-unfinished.ensures.len, c.in_ok-piece.ensures.within, c.room_for-room.ensures.trace, c.len-in-loop-unfinished.ensures);
-      held = search rules;
-      names = search rules;
-      kept = search rules;
+      opened = after.open;
+      trace = kept_told _ _ _ c.loop-step.steps.items c.keep.new.steps.items c.in-Ok-Some.step c.loop-step.reader.ended c.in-Ok-Some.field-0 keeps before.going is before.trace after.told
+          (still_told c.loop-step.reader c.next_step.new.self _ _ after.read_on);
+      going = after.goes_on;
+      few = omega (arith, c.keep.new.steps.ok.0, c.loop-step.steps.ok.0, ap length keeps, length-append c.loop-step.steps.items (c.in-Ok-Some.step ∷ []), before.few, (rw is at after.onward) refl);
+      within = after.within;
+      held = after.held ∙ before.held;
+      names = after.names ∙ before.names;
+      kept = after.kept ∙ before.kept;
     }
-
-pub returns-clause-trace : goal.returns-clause-trace
-returns-clause-trace g c =
-    elim c.loop-unfinished-test.branch [
-      | then-loop-unfinished-test+else-len-le-MAX_TRACE w ↦ stopped _ _ c.loop-unfinished.bytes.items (vec_len c.loop-unfinished.bytes) c.loop-unfinished.bytes.ok.0 c.loop-unfinished.invariant.bytes (inr (rw w.len.ensures at w.if-len-le-MAX_TRACE.false))
-      | else-loop-unfinished-test w ↦ stopped _ _ c.loop-unfinished.bytes.items (vec_len c.loop-unfinished.bytes) c.loop-unfinished.bytes.ok.0 c.loop-unfinished.invariant.bytes (inl (rw c.loop-unfinished.invariant.unfinished at w.loop-unfinished-test.false))
-    ]
