@@ -1,6 +1,7 @@
 -- From how a run ended to the clauses of the status that tells it.
 use Rattle.std.proofs.Common.{◌≡◌, ◌∙◌, ap, sym, refl, ℕ, ◌<◌, List, [], arith, inl, inr}
 use Rattle.std.specs.Prelude.{◌⊎◌, Option, Some, None, Result, Ok, Err, IsErrOf}
+use Rattle.data_layer.proofs.Steps.{some_same}
 use Rattle.gtm_base.specs.Causes.{Rose}
 use Rattle.gtm_base.specs.Outside.{Holdings, Holds, Lacks, and_then, TookFront}
 use Rattle.gtm_base.proofs.Pieces.{and_then-nil, front_none}
@@ -30,9 +31,6 @@ not_lacking held name bytes holds lacks =
     let one : holds.holdings ≡ lacks.holdings = cc in
     let none : Some bytes ≡ None = sym holds.bytes_are ∙ ap (λ h. h name) one ∙ lacks.absent in
     cc none
-
-some_same : {A : Type 0} {x y : A} → Some x ≡ Some y → x ≡ y
-some_same same = cc
 
 not_risen : (before now : ℕ) → before ≡ 0 → now ≡ 0 → Rose before now → ⊥
 not_risen before now zero still rose = absurd (omega arith)

@@ -2,6 +2,7 @@
 use Rattle.std.proofs.Common.{◌≡◌, ◌∙◌, ap, refl, subst, ℕ, zero, suc, ◌+◌, ◌-◌, ◌<◌, ◌≤◌, List, [], ◌∷◌, ◌++◌, Bool, true, false, Option, Some, None, if◌then◌else◌, arith}
 use Rattle.std.specs.Prelude.{not, ◌&&◌}
 use Rattle.std.proofs.lemmas.Grind.{flat_map-append}
+use Rattle.data_layer.proofs.Steps.{some_same}
 use Rattle.gtm_cli.specs.EngineState.{jobs_ahead, HasRoom}
 use Rattle.gtm_cli.specs.Jobs.{State, Job, pushed, first_begins, opened, first_of, next_job, one_if, is_list, take_message, take_command, job_step, Ran, with_lines, at_limit, then_jobs, take_jobs}
 use Rattle.gtm_cli.specs.Messages.{event_of, consent_message, init_message}
@@ -32,9 +33,6 @@ counts_at false state ahead = record { ahead = ahead; steps = refl; jobs = refl;
 
 opens : (state : State) → Opens state (opened state)
 opens state = counts_at (not state.begun && first_begins state.messages) state (ahead_at state.begun (first_begins state.messages) state refl refl)
-
-some_same : {A : Type 0} {x y : A} → Some x ≡ Some y → x ≡ y
-some_same same = cc
 
 -- what the next job leaves
 pub record Leaves (old left : State) : Type 0 where
