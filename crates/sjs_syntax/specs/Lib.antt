@@ -1,0 +1,5 @@
+pub mod Entries
+pub mod Formed
+pub mod Tree
+pub mod View
+pub mod Words
