@@ -1,0 +1,10 @@
+pub mod Fronts
+pub mod GapsRead
+pub mod NumbersRead
+pub mod Options
+pub mod PiecesRead
+pub mod Runs
+pub mod TokenLaws
+pub mod TokensFound
+pub mod TokensSeen
+pub mod Walks

@@ -1,0 +1,7 @@
+pub mod Characters
+pub mod Digits
+pub mod Escapes
+pub mod Found
+pub mod Reading
+pub mod TextEnds
+pub mod Tokens
