@@ -1,13 +1,13 @@
 -- White space and comments, as they are read and as they are defined.
-use Rattle.std.proofs.Common.{◌≡◌, ◌≢◌, ℕ, ◌≤◌, ◌<◌, ◌==◌, ◌&&◌, ◌||◌, not, List, [], ◌∷◌, ◌++◌, length, Bool, true, false, Option, Some, None, refl, sym, ap, subst, ◌∙◌, arith, inl, inr, ◌⊎◌, append_assoc}
+use Rattle.std.proofs.Common.{◌≡◌, ℕ, ◌<◌, ◌==◌, ◌&&◌, ◌||◌, not, List, [], ◌∷◌, ◌++◌, length, Bool, true, false, Some, None, refl, sym, ap, subst, ◌∙◌, arith, append_assoc}
 use Rattle.std.specs.Prelude.{if◌then◌else◌}
 use Rattle.std.specs.List.{list_all, list_any}
 use Rattle.std.proofs.lemmas.Bool.Decides.{nat_tests}
 use Rattle.sjs_lexer.specs.Characters.{is_line_end, is_in_line, is_white}
-use Rattle.sjs_lexer.specs.Reading.{Read, skip_while, behind_char, read_or, past_block, past_comment, past_gap}
+use Rattle.sjs_lexer.specs.Reading.{skip_while, behind_char, read_or, past_block, past_comment, past_gap}
 use Rattle.sjs_lexer.specs.Tokens.{begins_with, has_close, is_at_end_of_line, GapAt, white, line, block, begins_gap}
-use Rattle.sjs_lexer.proofs.Options.{if_cases, if_some}
-use Rattle.sjs_lexer.proofs.Runs.{IsRun, run_of, fails_first}
+use Rattle.sjs_lexer.proofs.Options.{if_some}
+use Rattle.sjs_lexer.proofs.Runs.{run_of, fails_first}
 
 -- the body of a comment that ends here
 pub record IsBody (broken : Bool) (text : List ℕ) (found : Bool × List ℕ) : Type 0 where

@@ -4,6 +4,7 @@ pub mod NumbersRead
 pub mod Options
 pub mod PiecesRead
 pub mod Runs
+pub mod SpanLaws
 pub mod TokenLaws
 pub mod TokensFound
 pub mod TokensSeen

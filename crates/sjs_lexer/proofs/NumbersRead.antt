@@ -1,11 +1,11 @@
 -- Numbers, as they are read and as they are defined.
-use Rattle.std.proofs.Common.{◌≡◌, ℕ, ◌+◌, ◌*◌, ◌≤◌, ◌<◌, ◌==◌, ◌&&◌, ◌||◌, not, List, [], ◌∷◌, ◌++◌, length, Bool, true, false, Option, Some, None, refl, sym, ap, subst, ◌∙◌, arith}
+use Rattle.std.proofs.Common.{◌≡◌, ℕ, ◌≤◌, ◌<◌, ◌==◌, ◌&&◌, ◌||◌, List, [], ◌∷◌, ◌++◌, Bool, true, false, Some, None, refl, ap, subst, ◌∙◌, arith}
 use Rattle.std.specs.Prelude.{if◌then◌else◌}
 use Rattle.std.specs.Char.{is_ascii_alphanumeric, is_ascii_digit, digit_value}
 use Rattle.std.specs.List.{list_all}
 use Rattle.std.proofs.lemmas.Bool.Decides.{nat_tests}
-use Rattle.sjs_lexer.specs.Digits.{then_with, push_digit, written_from, written, behind_zero, number_of}
-use Rattle.sjs_lexer.specs.Reading.{Read, number_from, hex_number_at, behind_zero_at, number_at}
+use Rattle.sjs_lexer.specs.Digits.{then_with, push_digit, written_from, behind_zero, number_of}
+use Rattle.sjs_lexer.specs.Reading.{number_from, hex_number_at, behind_zero_at, number_at}
 use Rattle.sjs_lexer.proofs.Options.{then_some, if_some, if_none}
 use Rattle.sjs_lexer.proofs.PiecesRead.{push_on}
 use Rattle.sjs_lexer.proofs.Runs.{fails_first}

@@ -1,12 +1,12 @@
 -- The characters of a text between quotes, as they are read and as they are defined.
-use Rattle.std.proofs.Common.{◌≡◌, ℕ, zero, suc, ◌+◌, ◌-◌, ◌*◌, ◌≤◌, ◌<◌, ◌==◌, ◌&&◌, ◌||◌, not, List, [], ◌∷◌, ◌++◌, length, Bool, true, false, Option, Some, None, refl, sym, ap, subst, ◌∙◌, arith, append_assoc}
+use Rattle.std.proofs.Common.{◌≡◌, ℕ, zero, suc, ◌<◌, ◌==◌, List, [], ◌∷◌, ◌++◌, length, true, false, Some, None, refl, sym, ap, subst, ◌∙◌, arith, append_assoc}
 use Rattle.std.specs.Prelude.{if◌then◌else◌, option_map}
 use Rattle.std.proofs.lemmas.Bool.Decides.{nat_tests}
 use Rattle.std.proofs.lemmas.List.{length-append}
 use Rattle.sjs_lexer.specs.Characters.{is_line_end}
 use Rattle.sjs_lexer.specs.Digits.{then_with, push_digit, written_from, written}
 use Rattle.sjs_lexer.specs.Escapes.{escaped, itself, is_scalar, is_high, is_low, joined}
-use Rattle.sjs_lexer.specs.Reading.{Read, read_on, hex_from, braced_from, scalar_at, low_at, pair_at, code_at, braced_at, unicode_at, escape_at, piece_at, Pieces, pieces_none, pieces_more}
+use Rattle.sjs_lexer.specs.Reading.{read_on, hex_from, braced_from, scalar_at, low_at, pair_at, code_at, braced_at, unicode_at, escape_at, piece_at, Pieces, pieces_none, pieces_more}
 use Rattle.sjs_lexer.specs.Tokens.{is_quote, is_plain, IsPiece, plain, short, hex, unicode, pair, braced, Spells, spells_none, spells_more}
 use Rattle.sjs_lexer.proofs.Options.{then_some, read_some, if_some, if_none}
 

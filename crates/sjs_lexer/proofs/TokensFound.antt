@@ -1,21 +1,18 @@
 -- The token at the front of a text, by the class of its first character.
-use Rattle.std.proofs.Common.{◌≡◌, ◌≢◌, ℕ, ◌+◌, ◌-◌, ◌≤◌, ◌<◌, ◌==◌, ◌&&◌, ◌||◌, not, List, [], ◌∷◌, ◌++◌, length, Bool, true, false, Option, Some, None, refl, sym, ap, subst, ◌∙◌, arith, append_assoc}
-use Rattle.std.specs.Prelude.{if◌then◌else◌, option_map, pos}
+use Rattle.std.proofs.Common.{◌≡◌, ℕ, ◌≤◌, ◌==◌, ◌||◌, not, List, [], ◌∷◌, ◌++◌, length, Bool, true, false, Some, None, refl, sym, ap, subst, ◌∙◌, arith, append_assoc}
+use Rattle.std.specs.Prelude.{if◌then◌else◌, pos}
 use Rattle.std.specs.Char.{is_ascii_alphanumeric, is_ascii_digit}
 use Rattle.std.specs.List.{list_all}
-use Rattle.std.specs.Str.{chars}
-use denote.Ref.{Bor}
 use Rattle.std.proofs.lemmas.Bool.Decides.{nat_tests}
 use Rattle.std.proofs.lemmas.List.{length-append}
-use Rattle.sjs_syntax.specs.Words.{is_word, is_sign, signs, IsLongestSign, BeginsWithNoSign}
+use Rattle.sjs_syntax.specs.Words.{is_sign, signs, IsLongestSign, BeginsWithNoSign}
 use Rattle.sjs_syntax.proofs.LongestSign.{entry_passes}
 use Rattle.sjs_lexer.specs.declared.token.TokenKind.{TokenKind}
 use Rattle.sjs_lexer.specs.declared.token.TokenKind.TheVariants as kind
-use Rattle.sjs_lexer.specs.Characters.{is_line_end, is_name_start, is_name_char}
+use Rattle.sjs_lexer.specs.Characters.{is_name_start, is_name_char}
 use Rattle.sjs_lexer.specs.Digits.{number_of}
-use Rattle.sjs_lexer.specs.Found.{HasNoToken, HasToken, Finds}
+use Rattle.sjs_lexer.specs.Found.{HasNoToken, HasToken}
 use Rattle.sjs_lexer.specs.Reading.{number_at, skip_while, piece_at, Pieces, behind_char}
-use Rattle.sjs_lexer.specs.TextEnds.{EndsAt}
 use Rattle.sjs_lexer.specs.Tokens.{is_name, is_quote, begins_gap, is_apart, IsToken, name, reserved, number, quoted, sign, TokenAt, Spells}
 use Rattle.sjs_lexer.proofs.NumbersRead.{is_joined, number_at_of, number_is_read, number_begins, number_is_alphanumeric}
 use Rattle.sjs_lexer.proofs.PiecesRead.{written_of, written_are_read, one_reading, quote_is_no_piece}

@@ -1,23 +1,23 @@
 -- What the code saw at the front of a text, as tokens.
-use Rattle.std.proofs.Common.{◌≡◌, ℕ, ◌≤◌, ◌<◌, ◌^◌, ◌&&◌, ◌||◌, not, List, [], ◌∷◌, ◌++◌, length, Bool, true, false, Option, Some, None, refl, sym, ap, subst, ◌∙◌, arith, w64, to_z}
-use Rattle.std.specs.Prelude.{option_map, pos, ℤ, encode_utf8_all}
+use Rattle.std.proofs.Common.{◌≡◌, ℕ, ◌≤◌, ◌<◌, ◌^◌, List, [], ◌∷◌, ◌++◌, length, true, false, Option, Some, None, refl, sym, ap, subst, ◌∙◌, arith, w64, to_z}
+use Rattle.std.specs.Prelude.{option_map, ℤ}
 use Rattle.std.specs.Char.{is_ascii_digit}
 use Rattle.std.specs.List.{list_all}
-use Rattle.std.specs.Str.{chars, IsUtf8, IsAscii}
+use Rattle.std.specs.Str.{chars, IsUtf8}
 use denote.Ref.{Bor}
 use Rattle.std.proofs.lemmas.Int.{to_z_pos}
 use Rattle.std.proofs.lemmas.Bool.Decides.{nat_tests}
 use Rattle.std.proofs.lemmas.Str.{encodes-chars, encodes-IsAscii}
 use Rattle.gtm_base.specs.Ascii.{is_all_ascii}
 use Rattle.gtm_base.proofs.Characters.{IsAscii-from_test}
-use Rattle.sjs_syntax.specs.Words.{is_word, is_sign, IsLongestSign, BeginsWithNoSign}
+use Rattle.sjs_syntax.specs.Words.{is_word, IsLongestSign, BeginsWithNoSign}
 use Rattle.sjs_lexer.specs.declared.token.TokenKind.{TokenKind}
 use Rattle.sjs_lexer.specs.declared.token.TokenKind.TheVariants as kind
 use Rattle.sjs_lexer.specs.Characters.{is_name_start, is_name_char}
 use Rattle.sjs_lexer.specs.Found.{BeginsWith, HasNoToken, HasToken, begins_sign}
 use Rattle.sjs_lexer.specs.Reading.{number_at, skip_while, behind, behind_char}
 use Rattle.sjs_lexer.specs.TextEnds.{EndsAt}
-use Rattle.sjs_lexer.specs.Tokens.{begins_gap, is_apart, is_name, is_quote, IsToken, name, reserved, TokenAt}
+use Rattle.sjs_lexer.specs.Tokens.{begins_gap, is_apart, is_name, is_quote, IsToken, name, reserved}
 use Rattle.sjs_lexer.proofs.Runs.{run_of}
 use Rattle.sjs_lexer.proofs.TokensFound.{name_found, number_found, no_number, text_found, no_text, sign_found, no_sign, remaining_class, class_of, remaining, append_cancel, behind_is}
 

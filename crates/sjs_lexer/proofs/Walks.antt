@@ -1,5 +1,5 @@
 -- From one place of a text to another, over tokens and what stands between them.
-use Rattle.std.proofs.Common.{◌≡◌, ◌≢◌, ℕ, ◌+◌, ◌-◌, ◌≤◌, ◌<◌, ◌==◌, ◌||◌, List, [], ◌∷◌, ◌++◌, length, Bool, true, false, Option, Some, None, refl, sym, ap, subst, ◌∙◌, arith, append_assoc}
+use Rattle.std.proofs.Common.{◌≡◌, ◌≢◌, ℕ, ◌+◌, ◌-◌, ◌<◌, ◌==◌, ◌||◌, List, [], ◌∷◌, ◌++◌, length, Bool, true, false, Option, Some, None, refl, sym, ap, subst, ◌∙◌, arith, append_assoc}
 use Rattle.std.specs.Prelude.{encode_utf8_all}
 use Rattle.std.specs.Bool.{OnTrue, OnFalse}
 use Rattle.std.specs.List.{list_any}
@@ -13,9 +13,9 @@ use Rattle.sjs_lexer.specs.declared.token.TokenKind.{TokenKind}
 use Rattle.sjs_lexer.specs.Characters.{is_line_end}
 use Rattle.sjs_lexer.specs.Found.{Finds, HasToken, HasNoToken}
 use Rattle.sjs_lexer.specs.Reading.{past_gap}
-use Rattle.sjs_lexer.specs.Tokens.{IsToken, GapAt, Skips, skips_none, skips_more, TokenAt, TokensTo, tokens_none, tokens_more, bytes_in, IsRefusedAt, AreTokens}
+use Rattle.sjs_lexer.specs.Tokens.{IsToken, Skips, skips_none, skips_more, TokenAt, TokensTo, tokens_none, tokens_more, bytes_in, IsRefusedAt, AreTokens}
 use Rattle.sjs_lexer.proofs.GapsRead.{no_gap, gap_of, gap_split, gap_is_some, or_false, or_assoc}
-use Rattle.sjs_lexer.proofs.TokensFound.{Begins, token_begins}
+use Rattle.sjs_lexer.proofs.TokensFound.{token_begins}
 
 -- one gap more
 pub skips_push : (text here : List ℕ) (broken : Bool) (found : Bool × List ℕ) → Skips text broken here → past_gap here ≡ Some found → Skips text (broken || found.0) found.1

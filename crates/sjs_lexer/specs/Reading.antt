@@ -1,6 +1,6 @@
 -- What is read at the front of a text, and what is then left of it.
-use Rattle.std.specs.Prelude.{◌≡◌, ℕ, zero, suc, ◌+◌, ◌-◌, ◌*◌, ◌==◌, ◌||◌, ◌&&◌, nat_lt, nat_le, List, [], ◌∷◌, Bool, true, false, Option, Some, None, if◌then◌else◌, option_map}
-use Rattle.std.specs.Char.{is_ascii_alphanumeric, is_ascii_digit}
+use Rattle.std.specs.Prelude.{◌≡◌, ℕ, zero, suc, ◌==◌, ◌||◌, List, [], ◌∷◌, Bool, false, Option, Some, None, if◌then◌else◌, option_map}
+use Rattle.std.specs.Char.{is_ascii_alphanumeric}
 use Rattle.std.specs.Str.{chars}
 use denote.Ref.{Bor}
 use Rattle.sjs_lexer.specs.Characters.{is_line_end, is_white, is_in_line}

@@ -1,6 +1,6 @@
 -- The tokens of a text: it is white space and comments with the tokens between them, each the longest
 -- that can be read there.
-use Rattle.std.specs.Prelude.{◌≡◌, ◌≢◌, ℕ, ◌+◌, ◌-◌, ◌≤◌, ◌==◌, ◌||◌, ◌&&◌, not, ℤ, pos, List, [], ◌∷◌, ◌++◌, length, Bool, true, false, Some, encode_utf8_all, if◌then◌else◌}
+use Rattle.std.specs.Prelude.{◌≡◌, ◌≢◌, ℕ, ◌-◌, ◌≤◌, ◌==◌, ◌||◌, ◌&&◌, not, pos, List, [], ◌∷◌, ◌++◌, length, Bool, true, false, Some, encode_utf8_all}
 use Rattle.std.specs.Char.{is_ascii_alphanumeric}
 use Rattle.std.specs.List.{list_all, list_any}
 use Rattle.sjs_syntax.specs.Words.{is_word, is_sign}

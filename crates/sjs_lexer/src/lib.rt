@@ -11,6 +11,7 @@ mod characters;
 mod digits;
 mod escapes;
 mod gaps;
+mod laws;
 mod lexing;
 mod names;
 mod numbers;
@@ -19,5 +20,6 @@ mod steps;
 mod texts;
 mod token;
 
+pub use laws::{a_text_is_made_tokens_in_one_way, tokens_lie_in_the_text};
 pub use lexing::tokens;
 pub use token::{LexEnd, Token, TokenKind, Tokens};

@@ -1,4 +1,4 @@
-use Rattle.std.proofs.Common.{sym, ap, subst, ◌||◌, ◌∙◌, List, ℕ, Bool, rules}
+use Rattle.std.proofs.Common.{sym, ap, subst, ◌||◌, ◌∙◌, Bool, rules}
 use Rattle.std.specs.Str.{chars}
 use Rattle.sjs_lexer.specs.Tokens.{Skips, skips_none}
 use Rattle.sjs_lexer.proofs.Walks.{skips_push, gap_shorter}

@@ -1,6 +1,5 @@
-use Rattle.std.proofs.Common.{sym, arith, rules, ◌≡◌, length, ◌<◌, ◌∙◌, ap}
+use Rattle.std.proofs.Common.{rules}
 use Rattle.std.specs.Str.{chars}
-use Rattle.std.proofs.lemmas.Bool.Decides.{nat_tests}
 use Rattle.sjs_lexer.specs.Tokens.{tokens_none, bytes_in}
 use Rattle.sjs_lexer.proofs.Walks.{gap_front, token_front, token_shorter, none_found, some_found, refused_at, all_tokens, one_more}
 use Rattle.sjs_lexer.proofs.lexing.tokens.Goals as goal

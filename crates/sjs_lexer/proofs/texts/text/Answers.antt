@@ -1,4 +1,4 @@
-use Rattle.std.proofs.Common.{sym, rules, subst}
+use Rattle.std.proofs.Common.{sym, rules}
 use Rattle.std.specs.Str.{chars}
 use Rattle.sjs_lexer.proofs.PiecesRead.{pieces_push, piece_shorter}
 use Rattle.sjs_lexer.specs.Reading.{pieces_none}
