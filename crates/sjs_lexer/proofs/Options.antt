@@ -1,5 +1,5 @@
 -- What a value says of the parts that made it.
-use Rattle.std.proofs.Common.{◌≡◌, ◌⊎◌, inl, inr, List, ℕ, Bool, true, false, Option, Some, None, refl}
+use Rattle.std.proofs.Common.{◌≡◌, List, ℕ, Bool, true, false, Option, Some, None, refl}
 use Rattle.std.specs.Prelude.{if◌then◌else◌}
 use Rattle.sjs_lexer.specs.Digits.{then_with}
 use Rattle.sjs_lexer.specs.Reading.{Read, read_on}
@@ -19,7 +19,3 @@ if_some false x r h = cc
 pub if_none : {A : Type 0} (b : Bool) (y : Option A) (r : A) → (if b then None else y) ≡ Some r → (b ≡ false) × (y ≡ Some r)
 if_none true y r h = cc
 if_none false y r h = (refl, h)
-
-pub if_cases : {A : Type 0} (b : Bool) (x y : A) (r : A) → (if b then x else y) ≡ r → ((b ≡ true) × (x ≡ r)) ⊎ ((b ≡ false) × (y ≡ r))
-if_cases true x y r h = inl (refl, h)
-if_cases false x y r h = inr (refl, h)

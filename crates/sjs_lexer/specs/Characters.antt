@@ -10,7 +10,8 @@ is_line_end c = ((c == 10 || c == 13) || c == 0x2028) || c == 0x2029
 abbrev pub is_in_line : ℕ → Bool
 is_in_line c = not (is_line_end c)
 
--- Unicode's white space but U+0085, and U+FEFF: the white space and the line ends of ECMAScript 5.1 (7.2 and 7.3)
+-- Unicode's white space but U+0085, and U+FEFF: the white space and the line ends of ECMAScript 5.1
+-- (7.2 and 7.3)
 unfoldable pub is_white : ℕ → Bool
 is_white c = c == 0xFEFF || (is_whitespace c && not (c == 0x85))
 

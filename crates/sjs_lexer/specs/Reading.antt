@@ -32,13 +32,15 @@ read_or (Some rest) broken other = Some (broken, rest)
 abbrev pub past_block : Bool → List ℕ → Read Bool
 past_block broken [] = None
 past_block broken (c ∷ cs) =
-    read_or (if c == 42 then behind_char 47 cs else None) broken (past_block (broken || is_line_end c) cs)
+    read_or (if c == 42 then behind_char 47 cs else None) broken
+    (past_block (broken || is_line_end c) cs)
 
 -- past a comment, from its second character on
 abbrev pub past_comment : List ℕ → Read Bool
 past_comment [] = None
 past_comment (c ∷ cs) =
-    if c == 47 then Some (false, skip_while is_in_line cs) else (if c == 42 then past_block false cs else None)
+    if c == 47 then Some (false, skip_while is_in_line cs)
+    else (if c == 42 then past_block false cs else None)
 
 -- past a white space character or a comment, and whether a line ended in it
 abbrev pub past_gap : List ℕ → Read Bool
@@ -58,7 +60,8 @@ number_from base number (c ∷ cs) =
 abbrev pub hex_from : ℕ → ℕ → List ℕ → Read ℕ
 hex_from zero number left = Some (number, left)
 hex_from (suc count) number [] = None
-hex_from (suc count) number (c ∷ cs) = then_with (push_digit 16 1114111 number c) (λ more. hex_from count more cs)
+hex_from (suc count) number (c ∷ cs) =
+    then_with (push_digit 16 1114111 number c) (λ more. hex_from count more cs)
 
 -- hexadecimal digits behind a number so far, up to a closing brace
 abbrev pub braced_from : ℕ → List ℕ → Read ℕ
@@ -70,7 +73,8 @@ braced_from number (c ∷ cs) =
 -- the number behind `0x`
 abbrev pub hex_number_at : List ℕ → Read ℕ
 hex_number_at [] = None
-hex_number_at (c ∷ cs) = then_with (push_digit 16 9007199254740991 0 c) (λ number. number_from 16 number cs)
+hex_number_at (c ∷ cs) =
+    then_with (push_digit 16 9007199254740991 0 c) (λ number. number_from 16 number cs)
 
 -- the number behind a first `0`
 abbrev pub behind_zero_at : List ℕ → Read ℕ
@@ -99,7 +103,8 @@ abbrev pub low_at : ℕ → List ℕ → Read ℕ
 low_at high [] = None
 low_at high (c ∷ cs) =
     if c == 117 then
-    read_on (hex_from 4 0 cs) (λ low left. if is_low low then scalar_at (joined high low) left else None)
+    read_on (hex_from 4 0 cs)
+    (λ low left. if is_low low then scalar_at (joined high low) left else None)
     else None
 
 -- behind the first of two surrogates
@@ -140,7 +145,8 @@ piece_at quote (c ∷ cs) =
 pub data Pieces (quote : ℕ) : List ℕ → List ℕ → List ℕ → Type 0 where
   pieces_none : {left : List ℕ} → Pieces quote left [] left
   pieces_more : {left : List ℕ} (next : List ℕ) {rest : List ℕ} {c : ℕ} {cs : List ℕ} →
-      piece_at quote left ≡ Some (c, next) → Pieces quote next cs rest → Pieces quote left (c ∷ cs) rest
+      piece_at quote left ≡ Some (c, next) → Pieces quote next cs rest →
+      Pieces quote left (c ∷ cs) rest
 
 -- what stands behind so many characters
 abbrev pub behind : ℕ → List ℕ → Option (List ℕ)

@@ -1,5 +1,5 @@
--- The tokens of a text: it is white space and comments with the tokens between them, each the longest
--- that can be read there.
+-- The tokens of a text: it is white space and comments with the tokens between them, each the
+-- longest that can be read there.
 use Rattle.std.specs.Prelude.{◌≡◌, ◌≢◌, ℕ, ◌-◌, ◌≤◌, ◌==◌, ◌||◌, ◌&&◌, not, pos, List, [], ◌∷◌, ◌++◌, length, Bool, true, false, Some, encode_utf8_all}
 use Rattle.std.specs.Char.{is_ascii_alphanumeric}
 use Rattle.std.specs.List.{list_all, list_any}
@@ -56,7 +56,8 @@ pub data IsToken : List ℕ → TokenKind → Type 0 where
   name : {w : List ℕ} → is_name w ≡ true → is_word w ≡ false → IsToken w kind.Name
   reserved : {w : List ℕ} → is_name w ≡ true → is_word w ≡ true → IsToken w kind.Reserved
   number : {w : List ℕ} {n : ℕ} → number_of w ≡ Some n → IsToken w (kind.Number (pos n))
-  quoted : {quote : ℕ} (w : List ℕ) {value : List ℕ} → is_quote quote ≡ true → Spells quote w value →
+  quoted : {quote : ℕ} (w : List ℕ) {value : List ℕ} →
+      is_quote quote ≡ true → Spells quote w value →
       IsToken (quote ∷ (w ++ quote ∷ [])) (kind.Text value)
   sign : {w : List ℕ} → is_sign w ≡ true → IsToken w kind.Sign
 
@@ -77,8 +78,8 @@ abbrev pub has_close : List ℕ → Bool
 has_close [] = false
 has_close (c ∷ cs) = (c == 42 && begins_with 47 cs) || has_close cs
 
--- a text, the white space character or the comment at its front, and what stands behind: a comment of
--- one line goes to the end of the line, and any other to the first `*/`
+-- a text, the white space character or the comment at its front, and what stands behind: a comment
+-- of one line goes to the end of the line, and any other to the first `*/`
 pub data GapAt : List ℕ → List ℕ → List ℕ → Type 0 where
   white : {c : ℕ} {rest : List ℕ} → is_white c ≡ true → GapAt (c ∷ rest) (c ∷ []) rest
   line : (body : List ℕ) {rest : List ℕ} →
@@ -122,8 +123,8 @@ pub record TokenAt (text word rest : List ℕ) (k : TokenKind) : Type 0 where
 abbrev pub bytes_in : List ℕ → ℕ
 bytes_in cs = length (encode_utf8_all cs)
 
--- tokens from one place of a text to another; a place is the number of bytes before it, which are all
--- the bytes of the whole text but those that are left
+-- tokens from one place of a text to another; a place is the number of bytes before it, which are
+-- all the bytes of the whole text but those that are left
 pub data TokensTo (whole : ℕ) : List ℕ → List Token → List ℕ → Type 0 where
   tokens_none : {left : List ℕ} → TokensTo whole left [] left
   tokens_more :
@@ -131,7 +132,12 @@ pub data TokensTo (whole : ℕ) : List ℕ → List Token → List ℕ → Type 
       {broken : Bool} {k : TokenKind} {ts : List Token} →
       Skips left broken here → TokenAt here word rest k → TokensTo whole rest ts last →
       TokensTo whole left
-      (record { kind = k; from = whole - bytes_in here; to = whole - bytes_in rest; after_break = broken } ∷ ts)
+      (record {
+        kind = k;
+        from = whole - bytes_in here;
+        to = whole - bytes_in rest;
+        after_break = broken;
+      } ∷ ts)
       last
 
 -- the tokens of a whole text

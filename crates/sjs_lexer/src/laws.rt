@@ -5,16 +5,16 @@ ghost use Rattle.sjs_lexer.specs.declared.token.Token.{Token};
 
 /// A law, with nothing to call: a text has one list of tokens, or one place at which it is refused.
 pub fn a_text_is_made_tokens_in_one_way()
-    ensures one { (text : List ℕ) (some other : List Token) → AreTokens text some → AreTokens text other →
-        some ≡ other }
-    ensures apart { (text : List ℕ) (some : List Token) (place : ℕ) → AreTokens text some →
-        IsRefusedAt text place → ⊥ }
-    ensures refused { (text : List ℕ) (some other : ℕ) → IsRefusedAt text some → IsRefusedAt text other →
-        some ≡ other }
+    ensures one { (text : List ℕ) (some other : List Token) →
+        AreTokens text some → AreTokens text other → some ≡ other }
+    ensures apart { (text : List ℕ) (some : List Token) (place : ℕ) →
+        AreTokens text some → IsRefusedAt text place → ⊥ }
+    ensures refused { (text : List ℕ) (some other : ℕ) →
+        IsRefusedAt text some → IsRefusedAt text other → some ≡ other }
 {}
 
-/// A law, with nothing to call: the tokens of a text lie in it in their order, each is the text between
-/// its two places, and what stands between them completes the text.
+/// A law, with nothing to call: the tokens of a text lie in it in their order, each is the text
+/// between its two places, and what stands between them completes the text.
 pub fn tokens_lie_in_the_text()
     ensures { (text : List ℕ) (some : List Token) → AreTokens text some → LieIn 0 text some }
 {}

@@ -8,7 +8,8 @@ use crate::escapes::escape;
 use crate::steps::{behind_char, next};
 use gtm_base::{OutOfMemory, Text};
 
-// Reads a text behind its first quote. Gives what stands behind the second, or `None` where it does not end well.
+// Reads a text behind its first quote. Gives what stands behind the second, or `None` where it does
+// not end well.
 pub(crate) fn text<'a>(
     quote: char,
     start: &'a str,

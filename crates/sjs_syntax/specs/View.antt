@@ -125,13 +125,15 @@ stmt_at s = s.form s.at
 abbrev pub expr_of : Expr → ExprTree
 expr_of =
     fold-Expr _ _ _ _ _ _ _ _ _ _
-    body_step expr_step place_step init_step stmt_step expr_at member_at place_at declarator_of stmt_at
+    body_step expr_step place_step init_step stmt_step
+    expr_at member_at place_at declarator_of stmt_at
 
 -- the tree of a statement
 abbrev pub stmt_of : Stmt → StmtTree
 stmt_of =
     fold-Stmt _ _ _ _ _ _ _ _ _ _
-    body_step expr_step place_step init_step stmt_step expr_at member_at place_at declarator_of stmt_at
+    body_step expr_step place_step init_step stmt_step
+    expr_at member_at place_at declarator_of stmt_at
 
 -- the trees of statements, in order
 abbrev pub stmts_of : List Stmt → StmtTrees

@@ -16,8 +16,8 @@ pub enum Standing {
     LeftOut,
 }
 
-/// The reserved words: none of them is a name. They are those of ECMAScript 2015 (11.6.2) and `let`,
-/// `undefined`, `arguments`, `async`, `await` and `of`, which are names there.
+/// The reserved words: none of them is a name. They are those of ECMAScript 2015 (11.6.2), and `let`,
+/// `undefined`, `arguments`, `async`, `await` and `of`, which may be names there.
 pub const WORDS: [(&str, Standing); 42] = [
     ("if", Grammar),
     ("else", Grammar),
