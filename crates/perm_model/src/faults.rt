@@ -1,26 +1,26 @@
-/// How a script ends badly, other than by a denial.
+/// How an entry into a script ends badly, other than by a denial.
 #[derive(Clone, Copy, Debug, PartialEq, Eq)]
 pub enum FaultKind {
-    /// The ticks of an entry are used up.
+    /// The entry has used up its ticks.
     Budget,
-    /// No cell is left for an object, an array, a function or a frame, or too many bytes of text were made.
+    /// No cell is left for what is made, or the bytes of the texts that were made are too many.
     HeapFull,
-    /// Too many calls are open.
+    /// Too many calls of script functions are open.
     CallDepth,
-    /// A value that is copied in or out nests too deep.
+    /// A value that is copied between the heap and data nests too deep.
     CopyDepth,
-    /// A number would leave the whole numbers in range, or a text or value stands for none.
+    /// An operation on numbers has another value, or its answer is no whole number in range.
     Number,
     /// What is called is no function.
     NotCallable,
-    /// A value has no such member.
+    /// A member is used where there can be none, or its key is neither a text nor a number.
     NoMember,
-    /// A value has no text.
+    /// A text is joined with an object, an array or a function.
     NoText,
-    /// A name is read or written before its declaration.
+    /// A name is used before its declaration.
     UnsetName,
-    /// A variable's script asks for something that would change the page.
+    /// The script of a variable asks for an effect other than a line of the log.
     EffectInVariable,
-    /// An argument is missing or has another kind than the call takes.
+    /// The arguments of a call are not those that it takes.
     BadArgument,
 }

@@ -28,7 +28,7 @@ pub(crate) fn front<'a>(text: &'a str, rest: &str) -> &'a str
     text.split_at(text.len() - rest.len()).0
 }
 
-// What stands behind so many characters, of which there are so many.
+// What stands behind so many characters, or `None` where there are fewer.
 pub(crate) fn skip(count: usize, text: &str) -> Option<&str>
     ensures { option_map (λ rest. chars rest.now) result ≡ behind count (chars text.now) }
 {
