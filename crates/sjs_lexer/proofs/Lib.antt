@@ -1,3 +1,4 @@
+pub mod DigitLaws
 pub mod Fronts
 pub mod GapsRead
 pub mod NumbersRead

@@ -1,4 +1,6 @@
-ghost use Rattle.std.specs.Prelude.{◌≡◌, ℕ, List};
+ghost use Rattle.std.specs.Prelude.{◌≡◌, ◌≢◌, ◌≤◌, ◌↔◌, ℕ, List, [], Some};
+ghost use Rattle.std.specs.Str.Parse.{AllDigits, digits_value};
+ghost use Rattle.sjs_lexer.specs.Digits.{written};
 ghost use Rattle.sjs_lexer.specs.Spans.{LieIn};
 ghost use Rattle.sjs_lexer.specs.Tokens.{AreTokens, IsRefusedAt};
 ghost use Rattle.sjs_lexer.specs.declared.token.Token.{Token};
@@ -17,4 +19,13 @@ pub fn a_text_is_made_tokens_in_one_way()
 /// between its two places, and what stands between them completes the text.
 pub fn tokens_lie_in_the_text()
     ensures { (text : List ℕ) (some : List Token) → AreTokens text some → LieIn 0 text some }
+{}
+
+/// A law, with nothing to call: one or more digits of a base write their value, where it is not over
+/// the limit.
+pub fn digits_write_their_value()
+    ensures { (base limit number : ℕ) (digits : List ℕ) → 1 ≤ base →
+        (written base limit digits ≡ Some number) ↔
+        ((digits ≢ []) × AllDigits base digits × (digits_value base digits ≡ number) ×
+        (number ≤ limit)) }
 {}
