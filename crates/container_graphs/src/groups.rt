@@ -6,7 +6,8 @@ use export_model::{Container, TriggerRef, TriggerRefs};
 use gtm_base::{ListOf, OutOfMemory};
 use std::alloc::Global;
 
-/// For each trigger of a container, in order, the places of those that are members of its group. Fails where memory is wanting.
+/// For each trigger of a container, in order, the places of those that are members of its group.
+/// Fails where memory is wanting.
 pub fn group_graph(
     alloc: Global,
     container: &Container,

@@ -1,7 +1,8 @@
 ghost use Rattle.std.specs.Prelude.{◌≡◌, ◌++◌, OnOk};
 ghost use Rattle.std.specs.List.{filter_map};
 ghost use Rattle.export_model.specs.Graphs.{variable_at};
-ghost use Rattle.export_model.specs.Names.{name_in, names_in, names_in_all, names_of_option, names_of_format};
+ghost use Rattle.export_model.specs.Names.{name_in, names_in, names_in_all, names_of_option};
+ghost use Rattle.export_model.specs.Names.{names_of_format};
 ghost use Rattle.export_model.specs.Params.{value_of, params_of};
 
 use export_model::{Format, NameRef, Param, ParamValue, Params, Piece, Pieces};
@@ -14,7 +15,8 @@ pub(crate) fn push_named_by_params(
     found: &mut ListOf<usize>,
     params: &Params,
 ) -> Result<(), OutOfMemory>
-    ensures { OnOk result (found.new ≡ found.old ++ filter_map variable_at (names_in_all (params_of params.now))) }
+    ensures { OnOk result
+        (found.new ≡ found.old ++ filter_map variable_at (names_in_all (params_of params.now))) }
 {
     for param in params.as_slice() {
         push_named_by_value(found, &param.value)?;
@@ -26,7 +28,8 @@ pub(crate) fn push_named_by_params(
 #[cycle(params)]
 #[tactic(auto, unfolding(export_model::specs::Names::names_in))]
 fn push_named_by_value(found: &mut ListOf<usize>, value: &ParamValue) -> Result<(), OutOfMemory>
-    ensures { OnOk result (found.new ≡ found.old ++ filter_map variable_at (names_in (value_of value.now))) }
+    ensures { OnOk result
+        (found.new ≡ found.old ++ filter_map variable_at (names_in (value_of value.now))) }
 {
     match value {
         ParamValue::Template(pieces) => push_named_by_pieces(found, pieces),
@@ -40,7 +43,8 @@ fn push_named_by_value(found: &mut ListOf<usize>, value: &ParamValue) -> Result<
 
 // Puts the places of the variables that the pieces of a text name behind those already found.
 fn push_named_by_pieces(found: &mut ListOf<usize>, pieces: &Pieces) -> Result<(), OutOfMemory>
-    ensures { OnOk result (found.new ≡ found.old ++ filter_map variable_at (filter_map name_in pieces.now)) }
+    ensures { OnOk result
+        (found.new ≡ found.old ++ filter_map variable_at (filter_map name_in pieces.now)) }
 {
     for piece in pieces.as_slice() {
         if let Piece::Name(NameRef::Variable(at)) = piece {
@@ -50,9 +54,11 @@ fn push_named_by_pieces(found: &mut ListOf<usize>, pieces: &Pieces) -> Result<()
     Ok(())
 }
 
-// Puts the places of the variables that a parameter names, where there is one, behind those already found.
+// Puts the places of the variables that a parameter names, where there is one, behind those already
+// found.
 fn push_named_by_option(found: &mut ListOf<usize>, param: &Option<Param>) -> Result<(), OutOfMemory>
-    ensures { OnOk result (found.new ≡ found.old ++ filter_map variable_at (names_of_option param.now)) }
+    ensures { OnOk result
+        (found.new ≡ found.old ++ filter_map variable_at (names_of_option param.now)) }
 {
     match param {
         Some(param) => push_named_by_value(found, &param.value),
@@ -66,7 +72,8 @@ pub(crate) fn push_named_by_format(
     found: &mut ListOf<usize>,
     format: &Format,
 ) -> Result<(), OutOfMemory>
-    ensures { OnOk result (found.new ≡ found.old ++ filter_map variable_at (names_of_format format.now)) }
+    ensures { OnOk result
+        (found.new ≡ found.old ++ filter_map variable_at (names_of_format format.now)) }
 {
     push_named_by_option(found, &format.null)?;
     push_named_by_option(found, &format.undefined)?;

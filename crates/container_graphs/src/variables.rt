@@ -8,7 +8,8 @@ use export_model::{Container, Variable};
 use gtm_base::{ListOf, OutOfMemory};
 use std::alloc::Global;
 
-/// For each variable of a container, in order, the places of the variables that its parameters and its format name, as often and in the order as they stand there. Fails where memory is wanting.
+/// For each variable of a container, in order, the places of the variables that its parameters and
+/// its format name, as often and in the order as they stand there. Fails where memory is wanting.
 pub fn variable_graph(
     alloc: Global,
     container: &Container,
@@ -22,7 +23,8 @@ pub fn variable_graph(
     Ok(graph)
 }
 
-// The places of the variables that a variable names: those in its parameters, then those in its format.
+// The places of the variables that a variable names: those in its parameters, then those in its
+// format.
 #[tactic(auto, using(crate::proofs::Joined::joined))]
 fn named_by_variable(alloc: Global, variable: &Variable) -> Result<ListOf<usize>, OutOfMemory>
     ensures { IfOk result (λ made. made ≡ filter_map variable_at (names_of_variable variable.now)) }

@@ -12,7 +12,8 @@ use Rattle.export_entries.specs.declared.formats.WrittenFormat.{WrittenFormat}
 
 -- the change of case that a word stands for
 abbrev pub case_named : List ℕ → Option WrittenCase
-case_named = among ((codes "none", AsItIs) ∷ (codes "lowercase", Lower) ∷ (codes "uppercase", Upper) ∷ [])
+case_named =
+    among ((codes "none", AsItIs) ∷ (codes "lowercase", Lower) ∷ (codes "uppercase", Upper) ∷ [])
 
 -- the fault of a format
 unfoldable pub format_fault : Data → Option (List ℕ)

@@ -2,7 +2,8 @@
 use Rattle.std.specs.Prelude.{ℕ, List, Option, codes}
 use Rattle.serde_json.specs.Data.{Data}
 use Rattle.export_fields.specs.Fault.{◌then◌}
-use Rattle.export_fields.specs.Fields.{not_object, required_text_fault, text_fault, text_at, not_text, as_text}
+use Rattle.export_fields.specs.Fields.{not_object, required_text_fault, text_fault, text_at}
+use Rattle.export_fields.specs.Fields.{not_text, as_text}
 use Rattle.export_fields.specs.Objects.{object_fault, object_at}
 use Rattle.export_entries.specs.declared.templates.WrittenGallery.{WrittenGallery}
 use Rattle.export_entries.specs.declared.templates.WrittenTemplate.{WrittenTemplate}

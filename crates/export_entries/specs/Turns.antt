@@ -15,18 +15,23 @@ use Rattle.export_entries.specs.declared.turns.ConsentStatus.TheVariants.{NotSet
 use Rattle.export_entries.specs.declared.turns.WrittenConsent.{WrittenConsent}
 use Rattle.export_entries.specs.declared.turns.WrittenList.{WrittenList}
 use Rattle.export_entries.specs.declared.turns.WrittenOption.{WrittenOption}
-use Rattle.export_entries.specs.declared.turns.WrittenOption.TheVariants.{OncePerEvent, OncePerLoad, Unlimited}
+use Rattle.export_entries.specs.declared.turns.WrittenOption.TheVariants.{OncePerEvent, OncePerLoad}
+use Rattle.export_entries.specs.declared.turns.WrittenOption.TheVariants.{Unlimited}
 use Rattle.export_entries.specs.declared.turns.WrittenSetup.{WrittenSetup}
 use Rattle.export_entries.specs.declared.turns.WrittenTeardown.{WrittenTeardown}
 use Rattle.export_entries.specs.declared.turns.WrittenTurn.{WrittenTurn}
 
 -- the firing option that a word stands for
 abbrev pub option_named : List ℕ → Option WrittenOption
-option_named = among ((codes "onceperevent", OncePerEvent) ∷ (codes "onceperload", OncePerLoad) ∷ (codes "unlimited", Unlimited) ∷ [])
+option_named =
+    among ((codes "onceperevent", OncePerEvent) ∷ (codes "onceperload", OncePerLoad)
+    ∷ (codes "unlimited", Unlimited) ∷ [])
 
 -- the consent status that a word stands for
 abbrev pub status_named : List ℕ → Option ConsentStatus
-status_named = among ((codes "notset", NotSet) ∷ (codes "notneeded", NotNeeded) ∷ (codes "needed", Needed) ∷ [])
+status_named =
+    among ((codes "notset", NotSet) ∷ (codes "notneeded", NotNeeded) ∷ (codes "needed", Needed)
+    ∷ [])
 
 -- the fault of a setup tag
 unfoldable pub setup_fault : Data → Option (List ℕ)

@@ -7,7 +7,8 @@ use gtm_base::{ListOf, Text};
 use serde_json::Value;
 use std::alloc::Global;
 
-/// A condition as it is written: the type of its comparison, empty where it has none, and its parameters.
+/// A condition as it is written: the type of its comparison, empty where it has none, and its
+/// parameters.
 #[derive(Drop)]
 pub struct WrittenCondition {
     pub kind: Text,

@@ -45,7 +45,9 @@ pub struct WrittenEntries {
     pub templates: WrittenTemplates,
 }
 
-/// The entries of a container version, an object. `Broken` comes at the first field that has another kind than it needs: first its own fields, then those of the container, and then those of the tags, triggers, variables, built-in variables and custom templates.
+/// The entries of a container version, an object. `Broken` comes at the first field that has
+/// another kind than it needs: first its own fields, then those of the container, and then those of
+/// the tags, triggers, variables, built-in variables and custom templates.
 #[tactic(auto, unfolding(crate::specs::Entries::entries_fault, crate::specs::Entries::entries_of))]
 pub fn read_entries(alloc: Global, version: &Value) -> Result<WrittenEntries, ReadEnd>
     ensures { Reads result (entries_fault (view version.now)) (entries_of (view version.now)) }

@@ -5,7 +5,8 @@ use Rattle.std.specs.Fmt.{decimal}
 use Rattle.export_fields.specs.declared.fault.ReadEnd.{ReadEnd}
 use Rattle.export_fields.specs.declared.fault.ReadEnd.TheVariants.{OutOfMemory, Broken}
 
--- the JSON pointer (RFC 6901) that goes to the member with this key, a word without `~` and `/`, and on from there
+-- the JSON pointer (RFC 6901) that goes to the member with this key, a word without `~` and `/`,
+-- and on from there
 abbrev pub in_key : List ℕ → List ℕ → List ℕ
 in_key key path = 47 ∷ chars key ++ path
 
@@ -29,7 +30,8 @@ abbrev pub Fails : ReadEnd → Option (List ℕ) → Type 0
 Fails OutOfMemory fault = Unit {0}
 Fails (Broken path) fault = fault ≡ Some path
 
--- a reader gives this value only where there is no fault, and else tells this first fault, unless memory ran out
+-- a reader gives this value only where there is no fault, and else tells this first fault, unless
+-- memory ran out
 abbrev pub Reads : {A : Type 0} → Result A ReadEnd → Option (List ℕ) → A → Type 0
 Reads (Ok x) fault value = (fault ≡ None) × (x ≡ value)
 Reads (Err end) fault value = Fails end fault

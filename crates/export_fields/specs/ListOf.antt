@@ -1,5 +1,6 @@
 -- Lists of values that are read alike.
-use Rattle.std.specs.Prelude.{◌≡◌, ◌<◌, ◌+◌, ℕ, List, [], ◌∷◌, Option, Some, None, option_map, option_and_then}
+use Rattle.std.specs.Prelude.{◌≡◌, ◌<◌, ◌+◌, ℕ, List, [], ◌∷◌, Option, Some, None, option_map}
+use Rattle.std.specs.Prelude.{option_and_then}
 use Rattle.std.specs.Option.{option_map_or}
 use Rattle.serde_json.specs.Data.{Data, Items, no_items, item}
 use Rattle.serde_json.specs.Find.{get, get_item, as_array}
@@ -9,17 +10,20 @@ use Rattle.export_fields.specs.Fields.{optional}
 -- the first fault of items, the first of which stands at this place
 abbrev pub items_fault : (Data → Option (List ℕ)) → ℕ → Items → Option (List ℕ)
 items_fault fault place no_items = None
-items_fault fault place (item d ds) = option_map (in_index place) (fault d) then items_fault fault (place + 1) ds
+items_fault fault place (item d ds) =
+    option_map (in_index place) (fault d) then items_fault fault (place + 1) ds
 
 -- the fault of the first item that has one, with its place before the path
-pub record IsFirstFault (fault : Data → Option (List ℕ)) (items : Items) (path : List ℕ) : Type 0 where
-  pub place : ℕ
-  pub value : Data
-  pub inner : List ℕ
-  pub stands : get_item place items ≡ Some value
-  pub breaks : fault value ≡ Some inner
-  pub before : (earlier : ℕ) (d : Data) → earlier < place → get_item earlier items ≡ Some d → fault d ≡ None
-  pub path_is : path ≡ in_index place inner
+pub record IsFirstFault (fault : Data → Option (List ℕ)) (items : Items) (path : List ℕ) : Type 0
+  where
+    pub place : ℕ
+    pub value : Data
+    pub inner : List ℕ
+    pub stands : get_item place items ≡ Some value
+    pub breaks : fault value ≡ Some inner
+    pub before : (earlier : ℕ) (d : Data) → earlier < place → get_item earlier items ≡ Some d
+        → fault d ≡ None
+    pub path_is : path ≡ in_index place inner
 
 -- what items stand for
 abbrev pub items_made : {T : Type 0} → (Data → T) → Items → List T

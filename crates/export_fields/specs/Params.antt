@@ -3,14 +3,18 @@ use Rattle.std.specs.Prelude.{◌≡◌, ◌+◌, ℕ, List, [], ◌∷◌, Opti
 use Rattle.std.specs.Option.{option_map_or}
 use Rattle.std.specs.Ordering.{nat_cmp, match_ordering}
 use Rattle.std.specs.Cmp.Lexicographic.{slice_cmp}
-use Rattle.serde_json.specs.Data.{Data, null, boolean, number, string, array, object, Items, no_items, item, Members, no_members, member}
+use Rattle.serde_json.specs.Data.{Data, null, boolean, number, string, array, object, Items}
+use Rattle.serde_json.specs.Data.{no_items, item, Members, no_members, member}
 use Rattle.serde_json.specs.Find.{get}
 use Rattle.export_fields.specs.Fault.{in_key, in_index, ◌then◌}
 use Rattle.export_fields.specs.Fields.{not_object, optional, text_fault, text_at}
 use Rattle.export_fields.specs.ListOf.{list_fault, list_at}
 use Rattle.export_fields.specs.Words.{among, word_fault, word_at}
 use Rattle.export_fields.specs.declared.params.ParamKind.{ParamKind}
-use Rattle.export_fields.specs.declared.params.ParamKind.TheVariants.{Template, Integer, Boolean, List as Listed, Map as Mapped, TriggerReference, TagReference}
+use Rattle.export_fields.specs.declared.params.ParamKind.TheVariants.{Template, Integer, Boolean}
+use Rattle.export_fields.specs.declared.params.ParamKind.TheVariants.{List as Listed, Map as Mapped}
+use Rattle.export_fields.specs.declared.params.ParamKind.TheVariants.{TriggerReference}
+use Rattle.export_fields.specs.declared.params.ParamKind.TheVariants.{TagReference}
 use Rattle.export_fields.specs.declared.params.WrittenParam.{WrittenParam, roll-WrittenParam}
 
 -- the words of the kinds
@@ -56,7 +60,8 @@ unfoldable mutual
   as_param (number n) = param_with (number n) [] []
   as_param (string s) = param_with (string s) [] []
   as_param (array ds) = param_with (array ds) [] []
-  as_param (object ms) = param_with (object ms) (member_params (codes "list") ms) (member_params (codes "map") ms)
+  as_param (object ms) =
+      param_with (object ms) (member_params (codes "list") ms) (member_params (codes "map") ms)
 
   -- the parameters that a value stands for, or none
   pub as_params : Data → List WrittenParam
@@ -75,7 +80,9 @@ unfoldable mutual
   -- the parameters that the member with this key stands for, or none
   pub member_params : List ℕ → Members → List WrittenParam
   member_params key no_members = []
-  member_params key (member k d ms) = match_ordering (slice_cmp nat_cmp key k) (member_params key ms) (as_params d) (member_params key ms)
+  member_params key (member k d ms) =
+      match_ordering (slice_cmp nat_cmp key k) (member_params key ms) (as_params d)
+      (member_params key ms)
 
 unfoldable mutual
   -- the first fault of a value as a parameter
@@ -85,7 +92,9 @@ unfoldable mutual
   not_param (number n) = Some []
   not_param (string s) = Some []
   not_param (array ds) = Some []
-  not_param (object ms) = param_fault_with (object ms) (member_params_fault (codes "list") ms) (member_params_fault (codes "map") ms)
+  not_param (object ms) =
+      param_fault_with (object ms) (member_params_fault (codes "list") ms)
+      (member_params_fault (codes "map") ms)
 
   -- the first fault of a value as a list of parameters
   pub not_params : Data → Option (List ℕ)
@@ -99,12 +108,15 @@ unfoldable mutual
   -- the first fault of items as parameters, the first of which stands at this place
   pub item_params_fault : ℕ → Items → Option (List ℕ)
   item_params_fault place no_items = None
-  item_params_fault place (item d ds) = option_map (in_index place) (not_param d) then item_params_fault (place + 1) ds
+  item_params_fault place (item d ds) =
+      option_map (in_index place) (not_param d) then item_params_fault (place + 1) ds
 
   -- the first fault of the member with this key as a list of parameters
   pub member_params_fault : List ℕ → Members → Option (List ℕ)
   member_params_fault key no_members = None
-  member_params_fault key (member k d ms) = match_ordering (slice_cmp nat_cmp key k) (member_params_fault key ms) (option_map (in_key key) (not_params d)) (member_params_fault key ms)
+  member_params_fault key (member k d ms) =
+      match_ordering (slice_cmp nat_cmp key k) (member_params_fault key ms)
+      (option_map (in_key key) (not_params d)) (member_params_fault key ms)
 
 -- the first fault of the parameters at a key of a parameter
 unfoldable pub nested_fault : List ℕ → Data → Option (List ℕ)
@@ -116,5 +128,9 @@ nested_at key d = option_map_or as_params (get key d) []
 
 -- a parameter is read by its fields: its list and its map are lists of parameters, read alike
 pub record IsReadByFields (d : Data) : Type 0 where
-  pub fault : not_param d ≡ (not_object d then param_fault_with d (list_fault not_param (codes "list") d) (list_fault not_param (codes "map") d))
-  pub value : as_param d ≡ param_with d (list_at as_param (codes "list") d) (list_at as_param (codes "map") d)
+  pub fault : not_param d
+      ≡ (not_object d
+      then param_fault_with d (list_fault not_param (codes "list") d)
+      (list_fault not_param (codes "map") d))
+  pub value : as_param d
+      ≡ param_with d (list_at as_param (codes "list") d) (list_at as_param (codes "map") d)

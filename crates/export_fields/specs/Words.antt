@@ -1,5 +1,6 @@
 -- Closed lists of words.
-use Rattle.std.specs.Prelude.{◌==◌, ℕ, List, [], ◌∷◌, map, filter, not, Option, Some, None, option_and_then, if◌then◌else◌, unwrap_or}
+use Rattle.std.specs.Prelude.{◌==◌, ℕ, List, [], ◌∷◌, map, filter, not, Option, Some, None}
+use Rattle.std.specs.Prelude.{option_and_then, if◌then◌else◌, unwrap_or}
 use Rattle.std.specs.Option.{option_map_or}
 use Rattle.std.specs.Str.{chars, bytes_eq}
 use Rattle.std.specs.Char.{to_ascii_lowercase}
@@ -31,4 +32,5 @@ word_fault named = optional (λ d. fault_without (as_word named d))
 
 -- what the word at a key stands for, or what an absent one means
 unfoldable pub word_at : {W : Type 0} → (List ℕ → Option W) → W → List ℕ → Data → W
-word_at named absent key d = option_map_or (λ e. unwrap_or (as_word named e) absent) (get key d) absent
+word_at named absent key d =
+    option_map_or (λ e. unwrap_or (as_word named e) absent) (get key d) absent

@@ -9,7 +9,8 @@ use std::alloc::Global;
 pub enum ReadEnd {
     /// Memory was wanting.
     OutOfMemory,
-    /// The value at this JSON pointer is of another kind, or an object without a field that it has to have. It is the first one. The pointer goes from the value that was read.
+    /// The value at this JSON pointer is of another kind, or an object without a field that it has
+    /// to have. It is the first one. The pointer goes from the value that was read.
     Broken { path: Text },
 }
 
@@ -37,7 +38,8 @@ pub fn broken_at(alloc: Global, key: &str) -> ReadEnd
     in_key(alloc, key, broken_here(alloc))
 }
 
-/// The JSON pointer that goes to the member with the key, a word without `~` and `/`, and on from there by the path.
+/// The JSON pointer that goes to the member with the key, a word without `~` and `/`, and on from
+/// there by the path.
 pub fn key_before(alloc: Global, key: &str, path: &Text) -> Result<Text, OutOfMemory>
     ensures { IfOk result (λ whole. whole ≡ in_key key.now path.now) }
 {
@@ -59,9 +61,11 @@ pub fn index_before(alloc: Global, at: usize, path: &Text) -> Result<Text, OutOf
     Ok(whole)
 }
 
-/// The end of reading the value at the key, seen from the object: the same fault, with the key before its path. `OutOfMemory` where memory is wanting for the path.
+/// The end of reading the value at the key, seen from the object: the same fault, with the key
+/// before its path. `OutOfMemory` where memory is wanting for the path.
 pub fn in_key(alloc: Global, key: &str, end: ReadEnd) -> ReadEnd
-    ensures { (fault : Option (List ℕ)) → Fails end fault → Fails result (option_map (in_key key.now) fault) }
+    ensures { (fault : Option (List ℕ)) → Fails end fault
+        → Fails result (option_map (in_key key.now) fault) }
 {
     match end {
         ReadEnd::OutOfMemory => ReadEnd::OutOfMemory,
@@ -72,9 +76,11 @@ pub fn in_key(alloc: Global, key: &str, end: ReadEnd) -> ReadEnd
     }
 }
 
-/// The end of reading the item at the place, seen from the list: the same fault, with the place before its path. `OutOfMemory` where memory is wanting for the path.
+/// The end of reading the item at the place, seen from the list: the same fault, with the place
+/// before its path. `OutOfMemory` where memory is wanting for the path.
 pub fn in_index(alloc: Global, at: usize, end: ReadEnd) -> ReadEnd
-    ensures { (fault : Option (List ℕ)) → Fails end fault → Fails result (option_map (in_index at) fault) }
+    ensures { (fault : Option (List ℕ)) → Fails end fault
+        → Fails result (option_map (in_index at) fault) }
 {
     match end {
         ReadEnd::OutOfMemory => ReadEnd::OutOfMemory,

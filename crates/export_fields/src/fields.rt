@@ -1,7 +1,8 @@
 ghost use Rattle.std.specs.Prelude.{◌≡◌, [], Some, None};
 ghost use Rattle.serde_json.specs.View.{view};
 ghost use Rattle.export_fields.specs.Fault.{Reads, Fails};
-ghost use Rattle.export_fields.specs.Fields.{not_object, not_text, as_text, required_text_fault, text_fault, text_at, flag_fault, flag_at};
+ghost use Rattle.export_fields.specs.Fields.{not_object, not_text, as_text, required_text_fault};
+ghost use Rattle.export_fields.specs.Fields.{text_fault, text_at, flag_fault, flag_at};
 
 use crate::fault::{ReadEnd, broken_at, broken_here, in_key};
 use gtm_base::Text;
@@ -31,10 +32,12 @@ pub(crate) fn as_text(alloc: Global, value: &Value) -> Result<Text, ReadEnd>
     }
 }
 
-/// The text at the key. An absent one is a fault at the object, and a value of another kind, null too, at the field.
+/// The text at the key. An absent one is a fault at the object, and a value of another kind, null
+/// too, at the field.
 #[tactic(auto, unfolding(crate::specs::Fields::required_text_fault, crate::specs::Fields::text_at))]
 pub fn required_text(alloc: Global, object: &Value, key: &str) -> Result<Text, ReadEnd>
-    ensures { Reads result (required_text_fault key.now (view object.now)) (text_at key.now (view object.now)) }
+    ensures { Reads result (required_text_fault key.now (view object.now))
+        (text_at key.now (view object.now)) }
 {
     match object.get(key) {
         Some(value) => match as_text(alloc, value) {
@@ -45,10 +48,12 @@ pub fn required_text(alloc: Global, object: &Value, key: &str) -> Result<Text, R
     }
 }
 
-/// The text at the key, or the empty text where there is none. A value of another kind, null too, is a fault at the field.
+/// The text at the key, or the empty text where there is none. A value of another kind, null too,
+/// is a fault at the field.
 #[tactic(auto, unfolding(crate::specs::Fields::text_fault, crate::specs::Fields::text_at))]
 pub fn text(alloc: Global, object: &Value, key: &str) -> Result<Text, ReadEnd>
-    ensures { Reads result (text_fault key.now (view object.now)) (text_at key.now (view object.now)) }
+    ensures { Reads result (text_fault key.now (view object.now))
+        (text_at key.now (view object.now)) }
 {
     match object.get(key) {
         Some(value) => match as_text(alloc, value) {
@@ -59,10 +64,12 @@ pub fn text(alloc: Global, object: &Value, key: &str) -> Result<Text, ReadEnd>
     }
 }
 
-/// The boolean at the key, or false where there is none. A value of another kind, null too, is a fault at the field.
+/// The boolean at the key, or false where there is none. A value of another kind, null too, is a
+/// fault at the field.
 #[tactic(auto, unfolding(crate::specs::Fields::flag_fault, crate::specs::Fields::flag_at))]
 pub fn flag(alloc: Global, object: &Value, key: &str) -> Result<bool, ReadEnd>
-    ensures { Reads result (flag_fault key.now (view object.now)) (flag_at key.now (view object.now)) }
+    ensures { Reads result (flag_fault key.now (view object.now))
+        (flag_at key.now (view object.now)) }
 {
     match object.get(key) {
         Some(value) => match value.as_bool() {

@@ -1,9 +1,10 @@
 //! Reads fields of JSON objects, each of its kind, or tells the first field of another kind.
 //!
-//! Of a JSON tree each reader has one fault, which is none or the JSON pointer to the first field that is wanting or of
-//! another kind, and one value. `Ok` comes only where there is no fault and gives that value; `Broken` gives that fault,
-//! seen from the value that was handed in; otherwise only memory was wanting. A fault of several fields is the first of
-//! theirs, in the order of reading. Keys are words without `~` and `/`, which need no escape in a JSON pointer.
+//! Of a JSON tree each reader has one fault, which is none or the JSON pointer to the first field
+//! that is wanting or of another kind, and one value. `Ok` comes only where there is no fault and
+//! gives that value; `Broken` gives that fault, seen from the value that was handed in; otherwise
+//! only memory was wanting. A fault of several fields is the first of theirs, in the order of
+//! reading. Keys are words without `~` and `/`, which need no escape in a JSON pointer.
 #![tactic(auto)]
 
 mod fault;

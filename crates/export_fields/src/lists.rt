@@ -11,7 +11,8 @@ use gtm_base::{ListOf, Text, Texts};
 use serde_json::Value;
 use std::alloc::Global;
 
-/// What a JSON value is read as: `fault` is its first fault, seen from the value, and `made` is what it stands for.
+/// What a JSON value is read as: `fault` is its first fault, seen from the value, and `made` is
+/// what it stands for.
 pub trait Entry: Sized + Drop {
     ghost fault: { Data → Option (List ℕ) };
 
@@ -36,7 +37,8 @@ impl Entry for Text {
 
 // What the items stand for.
 fn items_of<T: Entry>(alloc: Global, items: &Vec<Value>) -> Result<ListOf<T>, ReadEnd>
-    ensures { Reads result (items_fault T.fault 0 (items_view items.now.items)) (items_made T.made (items_view items.now.items)) }
+    ensures { Reads result (items_fault T.fault 0 (items_view items.now.items))
+        (items_made T.made (items_view items.now.items)) }
 {
     let mut made = ListOf::new(alloc);
     for (at, item) in items.iter().enumerate() {
@@ -48,10 +50,13 @@ fn items_of<T: Entry>(alloc: Global, items: &Vec<Value>) -> Result<ListOf<T>, Re
     Ok(made)
 }
 
-/// What the items of the list at the key stand for, or the empty list where there is none. A value that is no list is a fault at the field; else the first item with a fault tells it, with its place in the path.
+/// What the items of the list at the key stand for, or the empty list where there is none. A value
+/// that is no list is a fault at the field; else the first item with a fault tells it, with its
+/// place in the path.
 #[tactic(auto, unfolding(crate::specs::ListOf::list_fault, crate::specs::ListOf::list_at))]
 pub fn list_of<T: Entry>(alloc: Global, object: &Value, key: &str) -> Result<ListOf<T>, ReadEnd>
-    ensures { Reads result (list_fault T.fault key.now (view object.now)) (list_at T.made key.now (view object.now)) }
+    ensures { Reads result (list_fault T.fault key.now (view object.now))
+        (list_at T.made key.now (view object.now)) }
 {
     match object.get(key) {
         Some(value) => match value.as_array() {
@@ -65,9 +70,11 @@ pub fn list_of<T: Entry>(alloc: Global, object: &Value, key: &str) -> Result<Lis
     }
 }
 
-/// The texts of the list at the key, or the empty list where there is none. A value that is no list is a fault at the field; else the first item that is no text is one.
+/// The texts of the list at the key, or the empty list where there is none. A value that is no list
+/// is a fault at the field; else the first item that is no text is one.
 pub fn texts(alloc: Global, object: &Value, key: &str) -> Result<Texts, ReadEnd>
-    ensures { Reads result (list_fault not_text key.now (view object.now)) (list_at as_text key.now (view object.now)) }
+    ensures { Reads result (list_fault not_text key.now (view object.now))
+        (list_at as_text key.now (view object.now)) }
 {
     list_of(alloc, object, key)
 }

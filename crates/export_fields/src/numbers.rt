@@ -19,10 +19,13 @@ fn as_whole(value: &Value) -> Option<i64>
     }
 }
 
-/// The whole number at the key, or `None` where there is none. It stands there as a number from -9007199254740991 to 9007199254740991, or as a text that is one: an optional `-` and ASCII digits. Anything else is a fault at the field.
+/// The whole number at the key, or `None` where there is none. It stands there as a number from
+/// -9007199254740991 to 9007199254740991, or as a text that is one: an optional `-` and ASCII
+/// digits. Anything else is a fault at the field.
 #[tactic(auto, unfolding(crate::specs::Numbers::whole_fault, crate::specs::Numbers::whole_at))]
 pub fn whole_at(alloc: Global, object: &Value, key: &str) -> Result<Option<i64>, ReadEnd>
-    ensures { Reads result (whole_fault key.now (view object.now)) (whole_at key.now (view object.now)) }
+    ensures { Reads result (whole_fault key.now (view object.now))
+        (whole_at key.now (view object.now)) }
 {
     match object.get(key) {
         Some(value) => match as_whole(value) {

@@ -3,7 +3,9 @@ ghost use Rattle.serde_json.specs.View.{view, items_view};
 ghost use Rattle.export_fields.specs.Fault.{Reads, Fails};
 ghost use Rattle.export_fields.specs.ListOf.{list_fault, list_at};
 ghost use Rattle.export_fields.specs.Objects.{object_fault, object_at};
-ghost use Rattle.export_fields.specs.Params.{not_param, as_param, not_params, as_params, item_params_fault, item_params, nested_fault, nested_at};
+ghost use Rattle.export_fields.specs.Params.{not_param, as_param, not_params, as_params};
+ghost use Rattle.export_fields.specs.Params.{item_params_fault, item_params, nested_fault};
+ghost use Rattle.export_fields.specs.Params.{nested_at};
 
 use crate::fault::{ReadEnd, broken_here, in_index, in_key};
 use crate::fields::{object, text};
@@ -59,7 +61,8 @@ impl WordList for ParamKind {
     }
 }
 
-/// A parameter as it is written: an absent kind is `Template`, an absent text is empty, and so is an absent list.
+/// A parameter as it is written: an absent kind is `Template`, an absent text is empty, and so is
+/// an absent list.
 #[derive(Debug, Drop)]
 pub struct WrittenParam {
     pub kind: ParamKind,
@@ -109,7 +112,8 @@ fn as_param(alloc: Global, value: &Value) -> Result<WrittenParam, ReadEnd>
 #[cycle(params)]
 #[tactic(auto, unfolding(crate::specs::Params::nested_fault, crate::specs::Params::nested_at))]
 fn nested_at(alloc: Global, object: &Value, key: &str) -> Result<WrittenParams, ReadEnd>
-    ensures { Reads result (nested_fault key.now (view object.now)) (nested_at key.now (view object.now)) }
+    ensures { Reads result (nested_fault key.now (view object.now))
+        (nested_at key.now (view object.now)) }
 {
     match object.get(key) {
         Some(value) => match as_params(alloc, value) {
@@ -136,7 +140,8 @@ fn as_params(alloc: Global, value: &Value) -> Result<WrittenParams, ReadEnd>
 #[cycle(params)]
 #[tactic(auto, unfolding(crate::specs::Params::item_params_fault, crate::specs::Params::item_params))]
 fn item_params(alloc: Global, items: &Vec<Value>) -> Result<WrittenParams, ReadEnd>
-    ensures { Reads result (item_params_fault 0 (items_view items.now.items)) (item_params (items_view items.now.items)) }
+    ensures { Reads result (item_params_fault 0 (items_view items.now.items))
+        (item_params (items_view items.now.items)) }
 {
     let mut made = ListOf::new(alloc);
     for (at, item) in items.iter().enumerate() {
@@ -148,16 +153,22 @@ fn item_params(alloc: Global, items: &Vec<Value>) -> Result<WrittenParams, ReadE
     Ok(made)
 }
 
-/// The parameters of the list at the key, with those inside them, or the empty list where there is none. Of each parameter the fields are read in the order of `WrittenParam`, and the first fault is told. A value that is no list is a fault at the field, and a parameter that is no object is one at itself.
+/// The parameters of the list at the key, with those inside them, or the empty list where there is
+/// none. Of each parameter the fields are read in the order of `WrittenParam`, and the first fault
+/// is told. A value that is no list is a fault at the field, and a parameter that is no object is
+/// one at itself.
 pub fn params_at(alloc: Global, object: &Value, key: &str) -> Result<WrittenParams, ReadEnd>
-    ensures { Reads result (list_fault not_param key.now (view object.now)) (list_at as_param key.now (view object.now)) }
+    ensures { Reads result (list_fault not_param key.now (view object.now))
+        (list_at as_param key.now (view object.now)) }
 {
     list_of(alloc, object, key)
 }
 
-/// The parameter at the key, with those inside it, or `None` where there is none. Its fault has the key in its path.
+/// The parameter at the key, with those inside it, or `None` where there is none. Its fault has the
+/// key in its path.
 pub fn param_at(alloc: Global, object: &Value, key: &str) -> Result<Option<WrittenParam>, ReadEnd>
-    ensures { Reads result (object_fault not_param key.now (view object.now)) (object_at as_param key.now (view object.now)) }
+    ensures { Reads result (object_fault not_param key.now (view object.now))
+        (object_at as_param key.now (view object.now)) }
 {
     object_at(alloc, object, key)
 }

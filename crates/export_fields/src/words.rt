@@ -9,7 +9,8 @@ use gtm_base::{OutOfMemory, Text};
 use serde_json::Value;
 use std::alloc::Global;
 
-/// A closed list of words: `named` is what a folded word stands for, and `absent` is what an absent field means.
+/// A closed list of words: `named` is what a folded word stands for, and `absent` is what an absent
+/// field means.
 pub trait WordList: Sized + Drop {
     ghost named: { List ℕ → Option Self };
 
@@ -47,10 +48,13 @@ fn as_word<W: WordList>(alloc: Global, value: &Value) -> Result<Option<W>, OutOf
     }
 }
 
-/// What the word at the key stands for, or what an absent one means. The text is compared without its underscores and with its ASCII letters in lower case. A word that is none of the list, and a value of another kind, null too, is a fault at the field.
+/// What the word at the key stands for, or what an absent one means. The text is compared without
+/// its underscores and with its ASCII letters in lower case. A word that is none of the list, and a
+/// value of another kind, null too, is a fault at the field.
 #[tactic(auto, unfolding(crate::specs::Words::word_fault, crate::specs::Words::word_at))]
 pub fn word<W: WordList>(alloc: Global, object: &Value, key: &str) -> Result<W, ReadEnd>
-    ensures { Reads result (word_fault W.named key.now (view object.now)) (word_at W.named W.absent key.now (view object.now)) }
+    ensures { Reads result (word_fault W.named key.now (view object.now))
+        (word_at W.named W.absent key.now (view object.now)) }
 {
     match object.get(key) {
         Some(value) => match as_word(alloc, value)? {

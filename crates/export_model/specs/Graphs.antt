@@ -3,9 +3,11 @@ use Rattle.std.specs.Prelude.{ℕ, List, Option, Some, None, map}
 use Rattle.std.specs.List.{filter_map}
 use Rattle.export_model.specs.declared.container.Container.{Container}
 use Rattle.export_model.specs.declared.params.NameRef.{NameRef}
-use Rattle.export_model.specs.declared.params.NameRef.TheVariants.{Variable, BuiltIn, EventName, Nothing}
+use Rattle.export_model.specs.declared.params.NameRef.TheVariants.{Variable, BuiltIn, EventName}
+use Rattle.export_model.specs.declared.params.NameRef.TheVariants.{Nothing}
 use Rattle.export_model.specs.declared.triggers.TriggerRef.{TriggerRef}
-use Rattle.export_model.specs.declared.triggers.TriggerRef.TheVariants.{Own, AllPages, Init, ConsentInit, Never}
+use Rattle.export_model.specs.declared.triggers.TriggerRef.TheVariants.{Own, AllPages, Init}
+use Rattle.export_model.specs.declared.triggers.TriggerRef.TheVariants.{ConsentInit, Never}
 use Rattle.export_model.specs.Names.{names_of_variable}
 
 -- the place of the variable that a name stands for, if it does

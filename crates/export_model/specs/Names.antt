@@ -10,7 +10,8 @@ use Rattle.export_model.specs.declared.tags.Tag.{Tag}
 use Rattle.export_model.specs.declared.triggers.Trigger.{Trigger}
 use Rattle.export_model.specs.declared.variables.Format.{Format}
 use Rattle.export_model.specs.declared.variables.Variable.{Variable}
-use Rattle.export_model.specs.Params.{ValueTree, template, integer, bool, list, object, reference, ParamTrees, end, param, value_of, params_of}
+use Rattle.export_model.specs.Params.{ValueTree, template, integer, bool, list, object, reference}
+use Rattle.export_model.specs.Params.{ParamTrees, end, param, value_of, params_of}
 
 -- the name that a piece of a text is, if it is one
 abbrev pub name_in : Piece → Option NameRef
@@ -39,7 +40,9 @@ names_of_option (Some p) = names_in (value_of p.value)
 
 -- the names in a format's parameters
 abbrev pub names_of_format : Format → List NameRef
-names_of_format format = names_of_option format.null ++ names_of_option format.undefined ++ names_of_option format.yes ++ names_of_option format.no
+names_of_format format =
+    names_of_option format.null ++ names_of_option format.undefined ++ names_of_option format.yes
+    ++ names_of_option format.no
 
 -- the names in a tag's parameters
 abbrev pub names_of_tag : Tag → List NameRef
@@ -47,7 +50,8 @@ names_of_tag tag = names_in_all (params_of tag.params)
 
 -- the names in the sides of a condition
 abbrev pub names_of_condition : Condition → List NameRef
-names_of_condition condition = names_in (value_of condition.left.value) ++ names_in (value_of condition.right.value)
+names_of_condition condition =
+    names_in (value_of condition.left.value) ++ names_in (value_of condition.right.value)
 
 -- the names in a trigger's conditions
 abbrev pub names_of_trigger : Trigger → List NameRef
@@ -55,4 +59,5 @@ names_of_trigger trigger = flat_map names_of_condition trigger.conditions
 
 -- the names in a variable's parameters and format
 abbrev pub names_of_variable : Variable → List NameRef
-names_of_variable variable = names_in_all (params_of variable.params) ++ names_of_format variable.format
+names_of_variable variable =
+    names_in_all (params_of variable.params) ++ names_of_format variable.format

@@ -2,14 +2,16 @@
 use Rattle.std.specs.Prelude.{◌≡◌, ◌<◌, ◌^◌, length, true, false, All, IfSome, slice_get, IsSomeAnd}
 use Rattle.export_model.specs.declared.container.Container.{Container}
 use Rattle.export_model.specs.declared.params.NameRef.{NameRef}
-use Rattle.export_model.specs.declared.params.NameRef.TheVariants.{Variable, BuiltIn, EventName, Nothing}
+use Rattle.export_model.specs.declared.params.NameRef.TheVariants.{Variable, BuiltIn, EventName}
+use Rattle.export_model.specs.declared.params.NameRef.TheVariants.{Nothing}
 use Rattle.export_model.specs.declared.tags.Tag.{Tag}
 use Rattle.export_model.specs.declared.tags.TagKind.{TagKind}
 use Rattle.export_model.specs.declared.tags.TagKind.TheVariants as tag_kind
 use Rattle.export_model.specs.declared.tags.Sequence.{Sequence}
 use Rattle.export_model.specs.declared.triggers.Trigger.{Trigger}
 use Rattle.export_model.specs.declared.triggers.TriggerRef.{TriggerRef}
-use Rattle.export_model.specs.declared.triggers.TriggerRef.TheVariants.{Own, AllPages, Init, ConsentInit, Never}
+use Rattle.export_model.specs.declared.triggers.TriggerRef.TheVariants.{Own, AllPages, Init}
+use Rattle.export_model.specs.declared.triggers.TriggerRef.TheVariants.{ConsentInit, Never}
 use Rattle.export_model.specs.declared.variables.Variable.{Variable as VariableEntry}
 use Rattle.export_model.specs.declared.variables.VariableKind.{VariableKind}
 use Rattle.export_model.specs.declared.variables.VariableKind.TheVariants as variable_kind
@@ -73,12 +75,14 @@ pub record InRange (c : Container) : Type 0 where
 
 -- a tag's template is one of tags
 abbrev pub FitsTag : Container → TagKind → Type 0
-FitsTag c (tag_kind.Template at) = IsSomeAnd (slice_get c.templates at) (λ template. template.is_tag ≡ true)
+FitsTag c (tag_kind.Template at) =
+    IsSomeAnd (slice_get c.templates at) (λ template. template.is_tag ≡ true)
 FitsTag c (tag_kind.Opaque word) = Unit {0}
 
 -- a variable's template is none of tags
 abbrev pub FitsVariable : Container → VariableKind → Type 0
-FitsVariable c (variable_kind.Template at) = IsSomeAnd (slice_get c.templates at) (λ template. template.is_tag ≡ false)
+FitsVariable c (variable_kind.Template at) =
+    IsSomeAnd (slice_get c.templates at) (λ template. template.is_tag ≡ false)
 FitsVariable c _ = Unit {0}
 
 -- templates are used as what they are

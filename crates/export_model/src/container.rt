@@ -13,6 +13,7 @@ pub struct Container {
     pub variables: Variables,
     pub built_ins: BuiltIns,
     pub templates: Templates,
-    /// The numbers of built-in triggers that never hold, each once, in the order of the references to them.
+    /// The numbers of built-in triggers that never hold, each once, in the order of the references
+    /// to them.
     pub references: Texts,
 }

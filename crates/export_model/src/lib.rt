@@ -1,8 +1,9 @@
 //! A container as it runs: plain data, in which every name is a number.
 //!
-//! All fields are public. `Sound` of `specs/` says what holds of a container that was read: its numbers are below the
-//! lengths of the lists that they name, templates are used as what they are, and nothing refers to itself. A contract sees
-//! a parameter as its `param_of`, a tree of plain numbers, texts and lists.
+//! All fields are public. `Sound` of `specs/` says what holds of a container that was read: its
+//! numbers are below the lengths of the lists that they name, templates are used as what they are,
+//! and nothing refers to itself. A contract sees a parameter as its `param_of`, a tree of plain
+//! numbers, texts and lists.
 #![tactic(auto)]
 
 mod conditions;

@@ -23,7 +23,8 @@ pub enum FiringOption {
 pub struct Sequence {
     /// The tag at this place.
     pub tag: u32,
-    /// Whether its failure, or for a teardown tag that of the main tag, keeps the other one from starting.
+    /// Whether its failure, or for a teardown tag that of the main tag, keeps the other one from
+    /// starting.
     pub stop: bool,
 }
 

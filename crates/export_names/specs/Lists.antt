@@ -4,7 +4,8 @@ use Rattle.export_entries.specs.declared.entries.WrittenEntries.{WrittenEntries}
 use Rattle.export_params.specs.Names.{NameLists, AreFew}
 use Rattle.export_names.specs.Types.{TypeLists, types_of}
 
--- the names of variables, the types that templates have, the numbers of triggers and the names of tags
+-- the names of variables, the types that templates have, the numbers of triggers and the names of
+-- tags
 pub record Lists : Type 0 where
   pub names : NameLists
   pub types : TypeLists
@@ -14,7 +15,13 @@ pub record Lists : Type 0 where
 -- the lists of a container, in the order of its entries
 abbrev pub lists_of : WrittenEntries → Lists
 lists_of written = record {
-  names = record { variables = map (λ variable. variable.name) written.variables; built_ins = map (λ built_in. built_in.name) written.built_ins };
+  names =
+      record {
+        variables =
+            map (λ variable. variable.name) written.variables;
+        built_ins =
+            map (λ built_in. built_in.name) written.built_ins;
+      };
   types = types_of written.templates;
   triggers = map (λ trigger. trigger.id) written.triggers;
   tags = map (λ tag. tag.name) written.tags;

@@ -17,7 +17,10 @@ is_member_list param = is_list (out-WrittenParam param).kind && has_key (codes "
 
 -- the parameters that name the members of a group: the first list of members has them
 abbrev pub member_params : WrittenTrigger → List WrittenParam
-member_params written = if is_group written then option_map_or (λ param. (out-WrittenParam param).list) (find is_member_list written.params) [] else []
+member_params written =
+    if is_group written
+    then option_map_or (λ param. (out-WrittenParam param).list) (find is_member_list written.params)
+    [] else []
 
 -- the numbers of a group's members
 abbrev pub member_ids : WrittenTrigger → List (List ℕ)

@@ -1,5 +1,6 @@
 -- The types that use custom templates.
-use Rattle.std.specs.Prelude.{ℕ, List, [], ◌∷◌, ◌++◌, Option, option_and_then, codes, map, suc, Some, None, option_map, if◌then◌else◌}
+use Rattle.std.specs.Prelude.{ℕ, List, [], ◌∷◌, ◌++◌, Option, option_and_then, codes, map, suc}
+use Rattle.std.specs.Prelude.{Some, None, option_map, if◌then◌else◌}
 use Rattle.std.specs.List.{list_any}
 use Rattle.std.specs.Str.{bytes_eq}
 use Rattle.std.specs.Option.{option_map_or}
@@ -24,9 +25,11 @@ gallery_type written = option_map_or type_of_gallery (gallery_id written) (own_t
 
 -- the types that use a template, each of which begins with `cvt_`
 abbrev pub names_of : WrittenTemplate → List (List ℕ)
-names_of written = own_type written ∷ option_map_or (λ id. type_of_gallery id ∷ []) (gallery_id written) []
+names_of written =
+    own_type written ∷ option_map_or (λ id. type_of_gallery id ∷ []) (gallery_id written) []
 
--- the types that use a container's templates, in the order of these: those by the container, and those by the gallery
+-- the types that use a container's templates, in the order of these: those by the container, and
+-- those by the gallery
 pub record TypeLists : Type 0 where
   pub own : List (List ℕ)
   pub gallery : List (List ℕ)
@@ -43,4 +46,5 @@ types_of templates = record { own = map own_type templates; gallery = map galler
 abbrev pub first_using : List ℕ → List WrittenTemplate → Option ℕ
 first_using kind [] = None
 first_using kind (template ∷ templates) =
-    if list_any (λ name. bytes_eq name kind) (names_of template) then Some 0 else option_map suc (first_using kind templates)
+    if list_any (λ name. bytes_eq name kind) (names_of template) then Some 0
+    else option_map suc (first_using kind templates)

@@ -9,7 +9,8 @@ use gtm_base::{OutOfMemory, Text, Texts};
 use std::alloc::Global;
 use std::marker::Model;
 
-/// The types that the templates of a container have: each by the container, and each by the gallery.
+/// The types that the templates of a container have: each by the container, and each by the
+/// gallery.
 #[derive(Drop)]
 pub struct TypeTexts {
     pub own: Texts,
@@ -44,21 +45,42 @@ impl<'t, 'w> Model for NameRefs<'t, 'w> {
     ghost Value = { Lists };
 
     ghost view = { λ refs. record {
-      names = record { variables = map (λ t. t.now) refs.variables.items; built_ins = map (λ t. t.now) refs.built_ins.items };
-      types = record { own = map (λ t. t.now) refs.own_types.items; gallery = map (λ t. t.now) refs.gallery_types.items };
+      names =
+          record {
+            variables =
+                map (λ t. t.now) refs.variables.items;
+            built_ins = map (λ t. t.now) refs.built_ins.items;
+          };
+      types =
+          record {
+            own =
+                map (λ t. t.now) refs.own_types.items;
+            gallery = map (λ t. t.now) refs.gallery_types.items;
+          };
       triggers = map (λ t. t.now) refs.triggers.items;
       tags = map (λ t. t.now) refs.tags.items;
     } };
 
     ghost invariant = { λ refs. HasFewNames (record {
-      names = record { variables = map (λ t. t.now) refs.variables.items; built_ins = map (λ t. t.now) refs.built_ins.items };
-      types = record { own = map (λ t. t.now) refs.own_types.items; gallery = map (λ t. t.now) refs.gallery_types.items };
+      names =
+          record {
+            variables =
+                map (λ t. t.now) refs.variables.items;
+            built_ins = map (λ t. t.now) refs.built_ins.items;
+          };
+      types =
+          record {
+            own =
+                map (λ t. t.now) refs.own_types.items;
+            gallery = map (λ t. t.now) refs.gallery_types.items;
+          };
       triggers = map (λ t. t.now) refs.triggers.items;
       tags = map (λ t. t.now) refs.tags.items;
     }) };
 }
 
-/// References to the names of a container whose templates have these types. Fails where memory is wanting.
+/// References to the names of a container whose templates have these types. Fails where memory is
+/// wanting.
 pub fn name_refs<'t, 'w>(
     alloc: Global,
     types: &'t TypeTexts,

@@ -26,7 +26,14 @@ impl<'a> Model for Known<'a> {
 
     ghost Value = { Lists };
 
-    ghost view = { λ known. record { names = known.names; types = known.types; triggers = known.triggers; tags = known.tags } };
+    ghost view = { λ known.
+        record {
+          names =
+              known.names;
+          types = known.types;
+          triggers = known.triggers;
+          tags = known.tags;
+        } };
 }
 
 /// The lists by which these names become numbers. Fails where memory is wanting.

@@ -1,9 +1,10 @@
 //! What the names and numbers of an export lead to.
 //!
-//! `Known` has the lists of a container by which names become numbers: those of its variables and built-in variables, the
-//! types that its templates have, the numbers of its triggers and the names of its tags. In contracts it is those lists, and
-//! a name or type leads to the first entry that has it. `trigger_ref` also knows the built-in triggers, and
-//! `member_params` gives the members of a group. Otherwise only memory can be wanting.
+//! `Known` has the lists of a container by which names become numbers: those of its variables and
+//! built-in variables, the types that its templates have, the numbers of its triggers and the names
+//! of its tags. In contracts it is those lists, and a name or type leads to the first entry that
+//! has it. `trigger_ref` also knows the built-in triggers, and `member_params` gives the members of
+//! a group. Otherwise only memory can be wanting.
 #![tactic(auto)]
 
 mod borrowed;

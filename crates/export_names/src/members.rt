@@ -6,7 +6,8 @@ use export_fields::{ParamKind, WrittenParam, WrittenParams, folded};
 use gtm_base::OutOfMemory;
 use std::alloc::Global;
 
-/// The parameters that name the members of a group: of another trigger, none. Fails where memory is wanting.
+/// The parameters that name the members of a group: of another trigger, none. Fails where memory is
+/// wanting.
 pub fn member_params(
     alloc: Global,
     written: &WrittenTrigger,

@@ -8,7 +8,8 @@ use std::alloc::Global;
 
 /// The names of tags, in order. Fails where memory is wanting.
 pub fn tag_names(alloc: Global, tags: &WrittenTags) -> Result<Vec<&Text>, OutOfMemory>
-    ensures { IfOk result (λ made. map (λ text. text.now) made.items ≡ map (λ tag. tag.name) tags.now) }
+    ensures { IfOk result
+        (λ made. map (λ text. text.now) made.items ≡ map (λ tag. tag.name) tags.now) }
 {
     let mut made = Vec::new(alloc);
     for tag in tags.as_slice() {
@@ -19,7 +20,8 @@ pub fn tag_names(alloc: Global, tags: &WrittenTags) -> Result<Vec<&Text>, OutOfM
 
 /// The numbers of triggers, in order. Fails where memory is wanting.
 pub fn trigger_ids(alloc: Global, triggers: &WrittenTriggers) -> Result<Vec<&Text>, OutOfMemory>
-    ensures { IfOk result (λ made. map (λ text. text.now) made.items ≡ map (λ trigger. trigger.id) triggers.now) }
+    ensures { IfOk result
+        (λ made. map (λ text. text.now) made.items ≡ map (λ trigger. trigger.id) triggers.now) }
 {
     let mut made = Vec::new(alloc);
     for trigger in triggers.as_slice() {
@@ -33,7 +35,9 @@ pub fn variable_names(
     alloc: Global,
     variables: &WrittenVariables,
 ) -> Result<Vec<&Text>, OutOfMemory>
-    ensures { IfOk result (λ made. map (λ text. text.now) made.items ≡ map (λ variable. variable.name) variables.now) }
+    ensures { IfOk result
+        (λ made. map (λ text. text.now) made.items
+        ≡ map (λ variable. variable.name) variables.now) }
 {
     let mut made = Vec::new(alloc);
     for variable in variables.as_slice() {
@@ -44,7 +48,9 @@ pub fn variable_names(
 
 /// The names of built-in variables, in order. Fails where memory is wanting.
 pub fn built_in_names(alloc: Global, built_ins: &WrittenBuiltIns) -> Result<Vec<&Text>, OutOfMemory>
-    ensures { IfOk result (λ made. map (λ text. text.now) made.items ≡ map (λ built_in. built_in.name) built_ins.now) }
+    ensures { IfOk result
+        (λ made. map (λ text. text.now) made.items
+        ≡ map (λ built_in. built_in.name) built_ins.now) }
 {
     let mut made = Vec::new(alloc);
     for built_in in built_ins.as_slice() {
@@ -55,7 +61,8 @@ pub fn built_in_names(alloc: Global, built_ins: &WrittenBuiltIns) -> Result<Vec<
 
 /// The ids of tags, in order. Fails where memory is wanting.
 pub fn tag_ids(alloc: Global, tags: &WrittenTags) -> Result<Vec<&Text>, OutOfMemory>
-    ensures { IfOk result (λ made. map (λ text. text.now) made.items ≡ map (λ tag. tag.id) tags.now) }
+    ensures { IfOk result
+        (λ made. map (λ text. text.now) made.items ≡ map (λ tag. tag.id) tags.now) }
 {
     let mut made = Vec::new(alloc);
     for tag in tags.as_slice() {
@@ -66,7 +73,8 @@ pub fn tag_ids(alloc: Global, tags: &WrittenTags) -> Result<Vec<&Text>, OutOfMem
 
 /// The ids of variables, in order. Fails where memory is wanting.
 pub fn variable_ids(alloc: Global, variables: &WrittenVariables) -> Result<Vec<&Text>, OutOfMemory>
-    ensures { IfOk result (λ made. map (λ text. text.now) made.items ≡ map (λ variable. variable.id) variables.now) }
+    ensures { IfOk result
+        (λ made. map (λ text. text.now) made.items ≡ map (λ variable. variable.id) variables.now) }
 {
     let mut made = Vec::new(alloc);
     for variable in variables.as_slice() {
@@ -77,7 +85,8 @@ pub fn variable_ids(alloc: Global, variables: &WrittenVariables) -> Result<Vec<&
 
 /// The ids of templates, in order. Fails where memory is wanting.
 pub fn template_ids(alloc: Global, templates: &WrittenTemplates) -> Result<Vec<&Text>, OutOfMemory>
-    ensures { IfOk result (λ made. map (λ text. text.now) made.items ≡ map (λ template. template.id) templates.now) }
+    ensures { IfOk result
+        (λ made. map (λ text. text.now) made.items ≡ map (λ template. template.id) templates.now) }
 {
     let mut made = Vec::new(alloc);
     for template in templates.as_slice() {

@@ -1,6 +1,7 @@
 ghost use Rattle.std.specs.Prelude.{◌≡◌, IfOk};
 ghost use Rattle.export_names.specs.Values.{values_of};
-ghost use Rattle.export_names.specs.TriggerRefs.{built_in_trigger, trigger_ref, trigger_refs, is_never};
+ghost use Rattle.export_names.specs.TriggerRefs.{built_in_trigger, trigger_ref, trigger_refs};
+ghost use Rattle.export_names.specs.TriggerRefs.{is_never};
 
 use crate::numbers::Numbers;
 use export_fields::WrittenParam;
@@ -34,7 +35,8 @@ pub fn param_refs(
     Ok(made)
 }
 
-/// What the number of a trigger stands for: the first trigger of the container's own that has it, else a built-in one.
+/// What the number of a trigger stands for: the first trigger of the container's own that has it,
+/// else a built-in one.
 pub fn trigger_ref(ids: &Numbers, id: &Text) -> TriggerRef
     ensures { result ≡ trigger_ref ids.now id.now }
 {

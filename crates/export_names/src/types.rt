@@ -1,5 +1,6 @@
 ghost use Rattle.std.specs.Prelude.{◌≡◌, ◌<◌, ◌^◌, length, map, option_map, IfOk};
-ghost use Rattle.export_names.specs.Types.{own_type, gallery_id, type_of_gallery, gallery_type, names_of, template_at};
+ghost use Rattle.export_names.specs.Types.{own_type, gallery_id, type_of_gallery, gallery_type};
+ghost use Rattle.export_names.specs.Types.{names_of, template_at};
 
 use crate::numbers::Numbers;
 use export_entries::{WrittenTemplate, WrittenTemplates};

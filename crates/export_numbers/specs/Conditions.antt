@@ -8,7 +8,10 @@ use Rattle.export_entries.specs.declared.conditions.WrittenCondition.{WrittenCon
 use Rattle.export_entries.specs.declared.triggers.WrittenTrigger.{WrittenTrigger}
 use Rattle.export_model.specs.declared.conditions.Condition.{Condition}
 use Rattle.export_model.specs.declared.conditions.Op.{Op}
-use Rattle.export_model.specs.declared.conditions.Op.TheVariants.{Equals, Contains, StartsWith, EndsWith, Greater, GreaterOrEquals, Less, LessOrEquals, MatchRegex, Never}
+use Rattle.export_model.specs.declared.conditions.Op.TheVariants.{Equals, Contains, StartsWith}
+use Rattle.export_model.specs.declared.conditions.Op.TheVariants.{EndsWith, Greater}
+use Rattle.export_model.specs.declared.conditions.Op.TheVariants.{GreaterOrEquals, Less}
+use Rattle.export_model.specs.declared.conditions.Op.TheVariants.{LessOrEquals, MatchRegex, Never}
 use Rattle.export_model.specs.declared.params.Param.{Param}
 use Rattle.export_model.specs.declared.params.ParamValue.{roll-ParamValue}
 use Rattle.export_model.specs.declared.params.ParamValue.TheOpen.{ParamValue-F}
@@ -44,7 +47,8 @@ side_of names key params = option_map_or (param_of names) (first_with key params
 
 -- whether the text of the first parameter with a key is `true`
 abbrev pub is_on : List ℕ → List WrittenParam → Bool
-is_on key params = option_map_or (λ param. bytes_eq (value_of param) (codes "true")) (first_with key params) false
+is_on key params =
+    option_map_or (λ param. bytes_eq (value_of param) (codes "true")) (first_with key params) false
 
 -- the condition that a written one stands for
 abbrev pub condition_of : NameLists → WrittenCondition → Condition
@@ -59,4 +63,5 @@ condition_of names written = record {
 -- the conditions of a trigger: those of its custom event, its filter and its auto-event filter
 abbrev pub conditions_of : NameLists → WrittenTrigger → List Condition
 conditions_of names written =
-    map (condition_of names) written.custom ++ map (condition_of names) written.filter ++ map (condition_of names) written.auto
+    map (condition_of names) written.custom ++ map (condition_of names) written.filter
+    ++ map (condition_of names) written.auto

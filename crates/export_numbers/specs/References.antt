@@ -1,5 +1,6 @@
 -- The numbers of triggers that never hold.
-use Rattle.std.specs.Prelude.{ℕ, suc, List, [], ◌∷◌, ◌++◌, Bool, false, Option, Some, None, ◌==◌, filter, if◌then◌else◌}
+use Rattle.std.specs.Prelude.{ℕ, suc, List, [], ◌∷◌, ◌++◌, Bool, false, Option, Some, None, ◌==◌}
+use Rattle.std.specs.Prelude.{filter, if◌then◌else◌}
 use Rattle.std.specs.List.{flat_map, list_any}
 use Rattle.std.specs.Str.{bytes_eq}
 use Rattle.text_places.specs.Places.{place_of}
@@ -14,7 +15,8 @@ never_ids ids texts = filter (λ id. is_never (trigger_ref ids id)) texts
 
 -- the numbers that never hold among those of tags, firing before blocking for each
 abbrev pub never_of_tags : List (List ℕ) → List WrittenTag → List (List ℕ)
-never_of_tags ids tags = flat_map (λ tag. never_ids ids tag.firing ++ never_ids ids tag.blocking) tags
+never_of_tags ids tags =
+    flat_map (λ tag. never_ids ids tag.firing ++ never_ids ids tag.blocking) tags
 
 -- the numbers that never hold among the members of groups
 abbrev pub never_of_groups : List (List ℕ) → List WrittenTrigger → List (List ℕ)
@@ -29,7 +31,8 @@ is_place place (Some at) = at == place
 abbrev pub firsts_from : List (List ℕ) → ℕ → List (List ℕ) → List (List ℕ)
 firsts_from all place [] = []
 firsts_from all place (text ∷ texts) =
-    if is_place place (place_of text all) then text ∷ firsts_from all (suc place) texts else firsts_from all (suc place) texts
+    if is_place place (place_of text all) then text ∷ firsts_from all (suc place) texts
+    else firsts_from all (suc place) texts
 
 -- each of the texts once, where it stands first
 abbrev pub each_once : List (List ℕ) → List (List ℕ)

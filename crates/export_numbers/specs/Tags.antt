@@ -1,5 +1,6 @@
 -- The tags of an export as those of the model.
-use Rattle.std.specs.Prelude.{ℕ, ℤ, pos, List, [], Bool, true, false, Option, Some, None, option_map, option_and_then, unwrap_or, if◌then◌else◌}
+use Rattle.std.specs.Prelude.{ℕ, ℤ, pos, List, [], Bool, true, false, Option, Some, None}
+use Rattle.std.specs.Prelude.{option_map, option_and_then, unwrap_or, if◌then◌else◌}
 use Rattle.std.specs.Option.{option_map_or}
 use Rattle.gtm_data.specs.WholeText.{whole_text}
 use Rattle.text_places.specs.Places.{place_of}
@@ -30,7 +31,8 @@ kind_of types kind = option_map_or Template (template_at types kind) (Opaque kin
 
 -- the priority of a tag: 0 where there is none, or it is no whole number
 abbrev pub priority_of : Option WrittenParam → ℤ
-priority_of priority = unwrap_or (option_and_then (λ param. whole_text (value_of param)) priority) (pos 0)
+priority_of priority =
+    unwrap_or (option_and_then (λ param. whole_text (value_of param)) priority) (pos 0)
 
 -- how often a tag may start
 abbrev pub option_of : WrittenOption → FiringOption
@@ -40,7 +42,8 @@ option_of written.Unlimited = options.Unlimited
 
 -- the first tag with a name, as a setup or teardown tag: none where no tag has it
 abbrev pub sequence_of : List (List ℕ) → List ℕ → Bool → Option Sequence
-sequence_of tags name stop = option_map (λ at. record { tag = at; stop = stop }) (place_of name tags)
+sequence_of tags name stop =
+    option_map (λ at. record { tag = at; stop = stop }) (place_of name tags)
 
 -- the setup tag that a written one stands for
 abbrev pub setup_of : List (List ℕ) → Option WrittenSetup → Option Sequence

@@ -1,12 +1,14 @@
 -- When the triggers of an export are looked at, and the members of groups.
-use Rattle.std.specs.Prelude.{ℕ, List, [], ◌∷◌, Bool, true, false, Option, Some, None, ◌&&◌, not, if◌then◌else◌, unwrap_or, codes}
+use Rattle.std.specs.Prelude.{ℕ, List, [], ◌∷◌, Bool, true, false, Option, Some, None, ◌&&◌, not}
+use Rattle.std.specs.Prelude.{if◌then◌else◌, unwrap_or, codes}
 use Rattle.std.specs.Option.{option_map_or}
 use Rattle.std.specs.Str.{bytes_eq}
 use Rattle.export_fields.specs.Words.{among, folded}
 use Rattle.export_fields.specs.declared.params.WrittenParam.{WrittenParam, out-WrittenParam}
 use Rattle.export_entries.specs.declared.triggers.WrittenTrigger.{WrittenTrigger}
 use Rattle.export_model.specs.declared.triggers.TriggerKind.{TriggerKind}
-use Rattle.export_model.specs.declared.triggers.TriggerKind.TheVariants.{Event, Custom, Group, Never}
+use Rattle.export_model.specs.declared.triggers.TriggerKind.TheVariants.{Event, Custom, Group}
+use Rattle.export_model.specs.declared.triggers.TriggerKind.TheVariants.{Never}
 use Rattle.export_names.specs.Values.{value_of, is_template}
 
 -- the types of triggers that hold at an event of their own, with its name
@@ -29,16 +31,20 @@ event_words =
 
 -- a parameter is a text that is not empty
 abbrev pub is_filled : WrittenParam → Bool
-is_filled param = is_template (out-WrittenParam param).kind && not (bytes_eq (value_of param) (codes ""))
+is_filled param =
+    is_template (out-WrittenParam param).kind && not (bytes_eq (value_of param) (codes ""))
 
--- the name of a timer's events: that of the trigger, as it was written, where it is a text that is not empty
+-- the name of a timer's events: that of the trigger, as it was written, where it is a text that is
+-- not empty
 abbrev pub timer_event : Option WrittenParam → List ℕ
 timer_event None = codes "gtm.timer"
 timer_event (Some param) = if is_filled param then value_of param else codes "gtm.timer"
 
 -- the kinds of triggers that hold at no event of their own, with the name of a timer's events
 abbrev pub kind_words : List ℕ → List (List ℕ × TriggerKind)
-kind_words timer = (codes "timer", Event timer) ∷ (codes "customevent", Custom) ∷ (codes "triggergroup", Group) ∷ []
+kind_words timer =
+    (codes "timer", Event timer) ∷ (codes "customevent", Custom) ∷ (codes "triggergroup", Group)
+    ∷ []
 
 -- the kind of a trigger of a type that holds at an event of its own, and else of none
 abbrev pub event_kind : List ℕ → List ℕ → TriggerKind
@@ -48,7 +54,8 @@ event_kind kind word = option_map_or Event (among event_words word) (Never kind)
 abbrev pub kind_of : WrittenTrigger → TriggerKind
 kind_of written =
     let word = folded written.kind in
-    unwrap_or (among (kind_words (timer_event written.event_name)) word) (event_kind written.kind word)
+    unwrap_or (among (kind_words (timer_event written.event_name)) word)
+    (event_kind written.kind word)
 
 -- a kind is that of groups
 abbrev pub is_group_kind : TriggerKind → Bool

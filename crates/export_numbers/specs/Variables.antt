@@ -1,5 +1,6 @@
 -- The variables of an export as those of the model.
-use Rattle.std.specs.Prelude.{ℕ, List, [], ◌∷◌, Bool, true, false, Option, Some, None, option_map, unwrap_or, codes}
+use Rattle.std.specs.Prelude.{ℕ, List, [], ◌∷◌, Bool, true, false, Option, Some, None, option_map}
+use Rattle.std.specs.Prelude.{unwrap_or, codes}
 use Rattle.std.specs.Option.{option_map_or}
 use Rattle.export_fields.specs.Words.{among}
 use Rattle.export_entries.specs.declared.formats.WrittenCase.{WrittenCase}
@@ -9,7 +10,11 @@ use Rattle.export_entries.specs.declared.variables.WrittenVariable.{WrittenVaria
 use Rattle.export_model.specs.declared.variables.Format.{Format}
 use Rattle.export_model.specs.declared.variables.Variable.{Variable}
 use Rattle.export_model.specs.declared.variables.VariableKind.{VariableKind}
-use Rattle.export_model.specs.declared.variables.VariableKind.TheVariants.{Layer, Constant, Cookie, Global, Url, Referrer, EventName, Lookup, RegexTable, Template, Unknown}
+use Rattle.export_model.specs.declared.variables.VariableKind.TheVariants.{Layer, Constant, Cookie}
+use Rattle.export_model.specs.declared.variables.VariableKind.TheVariants.{Global, Url, Referrer}
+use Rattle.export_model.specs.declared.variables.VariableKind.TheVariants.{EventName, Lookup}
+use Rattle.export_model.specs.declared.variables.VariableKind.TheVariants.{RegexTable, Template}
+use Rattle.export_model.specs.declared.variables.VariableKind.TheVariants.{Unknown}
 use Rattle.export_params.specs.Names.{NameLists}
 use Rattle.export_params.specs.Params.{param_of, params_of}
 use Rattle.export_names.specs.Lists.{Lists}
@@ -51,7 +56,8 @@ is_upper Upper = true
 
 -- the format that a written one stands for: an absent one changes nothing
 abbrev pub format_of : NameLists → Option WrittenFormat → Format
-format_of names None = record { lower = false; upper = false; null = None; undefined = None; yes = None; no = None }
+format_of names None =
+    record { lower = false; upper = false; null = None; undefined = None; yes = None; no = None }
 format_of names (Some written) = record {
   lower = is_lower written.case;
   upper = is_upper written.case;

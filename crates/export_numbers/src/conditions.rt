@@ -1,7 +1,8 @@
 ghost use Rattle.std.specs.Prelude.{◌≡◌, ◌++◌, map, IfOk, OnOk, IsTrue};
 ghost use Rattle.export_fields.specs.Words.{among};
 ghost use Rattle.gtm_base.specs.Ascii.{is_all_ascii};
-ghost use Rattle.export_numbers.specs.Conditions.{op_words, op_of, empty_param, side_of, is_on, condition_of, conditions_of};
+ghost use Rattle.export_numbers.specs.Conditions.{op_words, op_of, empty_param, side_of, is_on};
+ghost use Rattle.export_numbers.specs.Conditions.{condition_of, conditions_of};
 
 use export_entries::{WrittenCondition, WrittenConditions, WrittenTrigger};
 use export_fields::{WrittenParams, folded};
@@ -11,7 +12,8 @@ use export_params::{Names, param_of};
 use gtm_base::{OutOfMemory, Text};
 use std::alloc::Global;
 
-/// The conditions of a trigger: those of its custom event, its filter and its auto-event filter. Fails where memory is wanting.
+/// The conditions of a trigger: those of its custom event, its filter and its auto-event filter.
+/// Fails where memory is wanting.
 pub fn conditions_of(
     alloc: Global,
     names: &Names,

@@ -16,9 +16,11 @@ use export_names::{Known, TypeTexts, known_of, name_refs, type_texts};
 use gtm_base::{OutOfMemory, Text};
 use std::alloc::Global;
 
-/// The container that the entries of an export stand for, in which each name is a number. A name that nothing has stands for nothing, and a template has no field yet.
+/// The container that the entries of an export stand for, in which each name is a number. A name
+/// that nothing has stands for nothing, and a template has no field yet.
 ///
-/// Fails where memory is wanting, and where a list has 2^32 entries or more: no memory holds so many.
+/// Fails where memory is wanting, and where a list has 2^32 entries or more: no memory holds so
+/// many.
 pub fn container_of(alloc: Global, written: &WrittenEntries) -> Result<Container, OutOfMemory>
     ensures made { IfOk result (λ made. made ≡ container_of written.now) }
     ensures small { IfOk result HasSmallLists }

@@ -9,17 +9,20 @@ ghost use Rattle.export_names.specs.Types.{types_of, template_at, first_using};
 ghost use Rattle.export_numbers.specs.Triggers.{kind_of, is_group_kind};
 ghost use Rattle.export_names.specs.Members.{is_group};
 
-/// A law, with nothing to call: texts told each once come one behind the other, each unless it was told before.
+/// A law, with nothing to call: texts told each once come one behind the other, each unless it was
+/// told before.
 pub fn each_text_is_told_once()
     ensures { (texts : List (List ℕ)) → each_once texts ≡ told_behind [] texts }
 {}
 
-/// A law, with nothing to call: a trigger has the members of a group exactly where its kind is that of groups.
+/// A law, with nothing to call: a trigger has the members of a group exactly where its kind is that
+/// of groups.
 pub fn a_group_is_known_by_its_kind()
     ensures { (written : WrittenTrigger) → is_group written ≡ is_group_kind (kind_of written) }
 {}
 
-/// A law, with nothing to call: in the container of any entries each number is a place in the list that it names.
+/// A law, with nothing to call: in the container of any entries each number is a place in the list
+/// that it names.
 pub fn every_number_is_in_range()
     ensures { (written : WrittenEntries) → InRange (container_of written) }
 {}

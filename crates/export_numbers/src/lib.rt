@@ -1,10 +1,12 @@
-//! Turns the entries of an export as they are written into a container of the model, in which each name is a number.
+//! Turns the entries of an export as they are written into a container of the model, in which each
+//! name is a number.
 //!
-//! `container_of` gives exactly the container that `container_of` of `specs/` tells, entry by entry, or memory was wanting.
-//! It judges nothing: a name that nothing has stands for nothing, and a type that is not built is kept as it was written.
-//! Each list of the container has fewer than 2^32 entries, so that each place has a number of 32 bits, and each number is a
-//! place in the list that it names. Three laws say of whole lists how texts are told each once, that exactly groups have
-//! members, and that every number is in range.
+//! `container_of` gives exactly the container that `container_of` of `specs/` tells, entry by
+//! entry, or memory was wanting. It judges nothing: a name that nothing has stands for nothing, and
+//! a type that is not built is kept as it was written. Each list of the container has fewer than
+//! 2^32 entries, so that each place has a number of 32 bits, and each number is a place in the list
+//! that it names. Three laws say of whole lists how texts are told each once, that exactly groups
+//! have members, and that every number is in range.
 #![tactic(auto)]
 
 mod built_ins;

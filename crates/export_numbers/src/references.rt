@@ -1,7 +1,8 @@
 ghost use Rattle.std.specs.Prelude.{◌≡◌, ◌++◌, map, IfOk, OnOk, filter};
 ghost use Rattle.text_places.specs.Places.{place_of};
 ghost use Rattle.export_names.specs.Values.{values_of};
-ghost use Rattle.export_numbers.specs.References.{never_ids, never_of_tags, never_of_groups, is_place, each_once, references_of};
+ghost use Rattle.export_numbers.specs.References.{never_ids, never_of_tags, never_of_groups};
+ghost use Rattle.export_numbers.specs.References.{is_place, each_once, references_of};
 ghost use Rattle.export_names.specs.TriggerRefs.{trigger_ref, is_never};
 
 use export_entries::{WrittenTags, WrittenTriggers};
@@ -11,7 +12,9 @@ use gtm_base::{OutOfMemory, Text, Texts};
 use std::alloc::Global;
 use text_places::Places;
 
-/// The numbers that never hold, each once, in the order of the references to them: first those of tags, firing before blocking for each, and then the members of groups. Fails where memory is wanting.
+/// The numbers that never hold, each once, in the order of the references to them: first those of
+/// tags, firing before blocking for each, and then the members of groups. Fails where memory is
+/// wanting.
 pub fn references_of(
     alloc: Global,
     ids: &Numbers,

@@ -1,7 +1,8 @@
 ghost use Rattle.std.specs.Prelude.{◌≡◌, option_map, IfOk, IfSome, IsTrue};
 ghost use Rattle.gtm_base.specs.Ascii.{is_all_ascii};
 ghost use Rattle.export_fields.specs.Words.{among};
-ghost use Rattle.export_numbers.specs.Triggers.{event_words, is_filled, timer_event, event_kind, kind_of};
+ghost use Rattle.export_numbers.specs.Triggers.{event_words, is_filled, timer_event, event_kind};
+ghost use Rattle.export_numbers.specs.Triggers.{kind_of};
 
 use export_entries::WrittenTrigger;
 use export_fields::{ParamKind, WrittenParam, folded};
@@ -10,7 +11,8 @@ use export_names::text_of;
 use gtm_base::{OutOfMemory, Text};
 use std::alloc::Global;
 
-/// When a trigger is looked at, by its type without underscores and in lower case. Fails where memory is wanting.
+/// When a trigger is looked at, by its type without underscores and in lower case. Fails where
+/// memory is wanting.
 pub fn kind_of(alloc: Global, written: &WrittenTrigger) -> Result<TriggerKind, OutOfMemory>
     ensures { IfOk result (λ made. made ≡ kind_of written.now) }
 {

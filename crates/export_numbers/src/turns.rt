@@ -1,7 +1,8 @@
 ghost use Rattle.std.specs.Prelude.{◌≡◌, IfOk, option_and_then};
 ghost use Rattle.gtm_data.specs.WholeText.{whole_text};
 ghost use Rattle.export_names.specs.Values.{value_of};
-ghost use Rattle.export_numbers.specs.Tags.{priority_of, option_of, sequence_of, setup_of, teardown_of, is_needed, named_types, consent_of};
+ghost use Rattle.export_numbers.specs.Tags.{priority_of, option_of, sequence_of, setup_of};
+ghost use Rattle.export_numbers.specs.Tags.{teardown_of, is_needed, named_types, consent_of};
 
 use export_entries::{ConsentStatus, WrittenConsent, WrittenOption, WrittenSetup, WrittenTeardown};
 use export_fields::WrittenParam;

@@ -1,7 +1,8 @@
 ghost use Rattle.std.specs.Prelude.{◌≡◌, map, option_map, IfOk};
 ghost use Rattle.export_fields.specs.Words.{among};
 ghost use Rattle.export_params.specs.Params.{param_of};
-ghost use Rattle.export_numbers.specs.Variables.{kind_words, custom_kind, kind_of, is_lower, is_upper, format_of, variable_of};
+ghost use Rattle.export_numbers.specs.Variables.{kind_words, custom_kind, kind_of, is_lower};
+ghost use Rattle.export_numbers.specs.Variables.{is_upper, format_of, variable_of};
 
 use export_entries::{WrittenCase, WrittenFormat, WrittenVariable, WrittenVariables};
 use export_fields::WrittenParam;

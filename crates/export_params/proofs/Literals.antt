@@ -1,5 +1,6 @@
 -- Literals are not empty.
-use Rattle.std.proofs.Common.{◌≡◌, ◌≢◌, ℕ, List, [], ◌∷◌, ◌++◌, length, map, true, false, refl, ap, sym, ◌∙◌, append-nil, arith}
+use Rattle.std.proofs.Common.{◌≡◌, ◌≢◌, ℕ, List, [], ◌∷◌, ◌++◌, length, map, true, false, refl, ap}
+use Rattle.std.proofs.Common.{sym, ◌∙◌, append-nil, arith}
 use Rattle.std.specs.Prelude.{◌==◌, encode_utf8_all}
 use Rattle.std.specs.Str.{chars, IsUtf8}
 use Rattle.std.proofs.lemmas.Str.{chars-nil, encodes-chars}
@@ -15,13 +16,22 @@ literal_of_some (c ∷ cs) h = refl
 
 module _ (names : NameLists) (pieces : List Piece) where
   -- a text that has a byte is a literal
-  pub some_behind : (bytes : List ℕ) → IsUtf8 bytes → (length bytes == 0) ≡ false → pieces ++ Literal (chars bytes) ∷ [] ≡ pieces ++ map (numbered names) (literal_of (chars bytes))
+  pub some_behind : (bytes : List ℕ) → IsUtf8 bytes → (length bytes == 0) ≡ false
+      → pieces ++ Literal (chars bytes) ∷ []
+      ≡ pieces ++ map (numbered names) (literal_of (chars bytes))
   some_behind [] utf8 h = cc
   some_behind (b ∷ bytes) utf8 h =
-      let some : chars (b ∷ bytes) ≢ [] = λ e. (let none : b ∷ bytes ≡ [] = sym (encodes-chars (b ∷ bytes) utf8) ∙ ap encode_utf8_all e in cc) in
+      let some : chars (b ∷ bytes) ≢ [] =
+      λ e. (let none : b ∷ bytes ≡ [] =
+      sym (encodes-chars (b ∷ bytes) utf8) ∙ ap encode_utf8_all e in cc) in
       ap (λ ls. pieces ++ map (numbered names) ls) (sym (literal_of_some (chars (b ∷ bytes)) some))
 
   -- an empty text is none
-  pub none_behind : (bytes : List ℕ) → (length bytes == 0) ≡ true → pieces ≡ pieces ++ map (numbered names) (literal_of (chars bytes))
-  none_behind [] h = sym (append-nil pieces) ∙ ap (λ text. pieces ++ map (numbered names) (literal_of text)) (sym chars-nil)
-  none_behind (b ∷ bytes) h = absurd (let none : length (b ∷ bytes) ≡ 0 = same_character (length (b ∷ bytes)) 0 h in omega arith)
+  pub none_behind : (bytes : List ℕ) → (length bytes == 0) ≡ true
+      → pieces ≡ pieces ++ map (numbered names) (literal_of (chars bytes))
+  none_behind [] h =
+      sym (append-nil pieces)
+      ∙ ap (λ text. pieces ++ map (numbered names) (literal_of text)) (sym chars-nil)
+  none_behind (b ∷ bytes) h =
+      absurd (let none : length (b ∷ bytes) ≡ 0 = same_character (length (b ∷ bytes)) 0 h in
+      omega arith)

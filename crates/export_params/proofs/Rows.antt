@@ -2,7 +2,8 @@
 use Rattle.std.proofs.Common.{◌≡◌, [], ◌∷◌, codes, refl}
 use Rattle.export_params.specs.Cut.{literal, name, first_name, cut_within, cut}
 
-a_name_within : cut (codes "a{{b}}c") ≡ literal (codes "a") ∷ name (codes "b") ∷ literal (codes "c") ∷ []
+a_name_within : cut (codes "a{{b}}c")
+    ≡ literal (codes "a") ∷ name (codes "b") ∷ literal (codes "c") ∷ []
 unfolding first_name cut_within cut
 a_name_within = refl
 

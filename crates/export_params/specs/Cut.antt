@@ -1,5 +1,6 @@
 -- A text cut into names in double braces and what stands around them.
-use Rattle.std.specs.Prelude.{ℕ, zero, suc, List, [], ◌∷◌, ◌++◌, length, drop, Option, Some, None, option_map, option_and_then, ◌==◌, ◌&&◌, Bool, false, if◌then◌else◌}
+use Rattle.std.specs.Prelude.{ℕ, zero, suc, List, [], ◌∷◌, ◌++◌, length, drop, Option, Some, None}
+use Rattle.std.specs.Prelude.{option_map, option_and_then, ◌==◌, ◌&&◌, Bool, false, if◌then◌else◌}
 use Rattle.std.specs.Option.{option_map_or}
 
 -- a piece as it is written: characters that stand for themselves, or a name without its braces
@@ -24,10 +25,14 @@ around_twice c (d ∷ rest) =
     if d == c && begins_with c rest then Some ([], drop 1 rest)
     else option_map (λ parts. (d ∷ parts.0, parts.1)) (around_twice c rest)
 
--- what stands before the first `{{`, the name from there to the next `}}`, and what stands behind that
+-- what stands before the first `{{`, the name from there to the next `}}`, and what stands behind
+-- that
 unfoldable pub first_name : List ℕ → Option (List ℕ × List ℕ × List ℕ)
 first_name text =
-    option_and_then (λ opened. option_map (λ closed. (opened.0, closed.0, closed.1)) (around_twice 125 opened.1)) (around_twice 123 text)
+    option_and_then
+    (λ opened.
+    option_map (λ closed. (opened.0, closed.0, closed.1))
+    (around_twice 125 opened.1)) (around_twice 123 text)
 
 -- the literal that a text is, or no piece where it is empty
 abbrev pub literal_of : List ℕ → List WrittenPiece
@@ -37,7 +42,9 @@ literal_of (c ∷ cs) = literal (c ∷ cs) ∷ []
 -- the pieces of a text in which so many names at most are looked for
 unfoldable pub cut_within : ℕ → List ℕ → List WrittenPiece
 cut_within zero text = literal_of text
-cut_within (suc names) text = option_map_or (λ found. literal_of found.0 ++ name found.1 ∷ cut_within names found.2) (first_name text) (literal_of text)
+cut_within (suc names) text =
+    option_map_or (λ found. literal_of found.0 ++ name found.1 ∷ cut_within names found.2)
+    (first_name text) (literal_of text)
 
 -- the pieces of a text, in order
 unfoldable pub cut : List ℕ → List WrittenPiece

@@ -4,7 +4,8 @@ use Rattle.std.specs.Option.{option_map_or}
 use Rattle.std.specs.Str.{bytes_eq}
 use Rattle.text_places.specs.Places.{place_of}
 use Rattle.export_model.specs.declared.params.NameRef.{NameRef}
-use Rattle.export_model.specs.declared.params.NameRef.TheVariants.{Variable, BuiltIn, EventName, Nothing}
+use Rattle.export_model.specs.declared.params.NameRef.TheVariants.{Variable, BuiltIn, EventName}
+use Rattle.export_model.specs.declared.params.NameRef.TheVariants.{Nothing}
 use Rattle.export_model.specs.declared.params.Piece.{Piece}
 use Rattle.export_model.specs.declared.params.Piece.TheVariants.{Literal, Name}
 use Rattle.export_params.specs.Cut.{WrittenPiece, literal, name, cut}
@@ -19,11 +20,13 @@ pub record AreFew (names : NameLists) : Type 0 where
   pub variables : length names.variables < 2 ^ 32
   pub built_ins : length names.built_ins < 2 ^ 32
 
--- what a name stands for: the event's name, else the first variable with the name, else the first built-in variable
+-- what a name stands for: the event's name, else the first variable with the name, else the first
+-- built-in variable
 abbrev pub name_ref : NameLists → List ℕ → NameRef
 name_ref names word =
     if bytes_eq word (codes "_event") then EventName
-    else option_map_or Variable (place_of word names.variables) (option_map_or BuiltIn (place_of word names.built_ins) Nothing)
+    else option_map_or Variable (place_of word names.variables)
+    (option_map_or BuiltIn (place_of word names.built_ins) Nothing)
 
 -- a piece with its name as a number
 abbrev pub numbered : NameLists → WrittenPiece → Piece

@@ -8,20 +8,32 @@ ghost use Rattle.export_params.specs.Names.{NameLists};
 ghost use Rattle.export_params.specs.Params.{value_with, param_of, params_of};
 ghost use Rattle.export_params.specs.Whole.{IsCut};
 
-/// A law, with nothing to call: the pieces of a text, put together again with each name in its braces, give the text; no literal is empty or has a `{{` with a `}}` behind it, no two literals follow each other, a name begins at the first `{{` from the literal before it on, and it ends at the first `}}`. No other list of pieces keeps to all that.
+/// A law, with nothing to call: the pieces of a text, put together again with each name in its
+/// braces, give the text; no literal is empty or has a `{{` with a `}}` behind it, no two literals
+/// follow each other, a name begins at the first `{{` from the literal before it on, and it ends at
+/// the first `}}`. No other list of pieces keeps to all that.
 pub fn a_text_is_cut_whole()
     ensures whole { (text : List ℕ) → IsCut text (cut text) }
-    ensures only { (text : List ℕ) (pieces : List WrittenPiece) → IsCut text pieces → pieces ≡ cut text }
+    ensures only { (text : List ℕ) (pieces : List WrittenPiece) → IsCut text pieces
+        → pieces ≡ cut text }
 {}
 
-/// A law, with nothing to call: a parameter of the model has the key of the written one, and the value that its kind and its text say, with the parameters that stand for those of its list and of its map.
+/// A law, with nothing to call: a parameter of the model has the key of the written one, and the
+/// value that its kind and its text say, with the parameters that stand for those of its list and
+/// of its map.
 pub fn a_parameter_is_turned_by_its_fields()
-    ensures key { (names : NameLists) (written : WrittenParam) → (param_of names written).key ≡ (out-WrittenParam written).key }
+    ensures key { (names : NameLists) (written : WrittenParam)
+        → (param_of names written).key ≡ (out-WrittenParam written).key }
     ensures value { (names : NameLists) (written : WrittenParam) →
-        (param_of names written).value ≡ value_with names (out-WrittenParam written).kind (out-WrittenParam written).value (params_of names (out-WrittenParam written).list) (params_of names (out-WrittenParam written).map) }
+        (param_of names written).value
+        ≡ value_with names (out-WrittenParam written).kind (out-WrittenParam written).value
+        (params_of names (out-WrittenParam written).list)
+        (params_of names (out-WrittenParam written).map) }
 {}
 
-/// A law, with nothing to call: each name in a parameter of the model, however deep it stands, is what some word stands for.
+/// A law, with nothing to call: each name in a parameter of the model, however deep it stands, is
+/// what some word stands for.
 pub fn each_name_is_looked_up()
-    ensures { (names : NameLists) (written : WrittenParam) → All (IsLookedUp names) (names_in (value_of (param_of names written).value)) }
+    ensures { (names : NameLists) (written : WrittenParam)
+        → All (IsLookedUp names) (names_in (value_of (param_of names written).value)) }
 {}

@@ -46,7 +46,8 @@ impl<'a> Names<'a> {
     }
 }
 
-/// What a name stands for: `_event` for the name of the event, else the first variable with the name, else the first built-in variable with it, else nothing.
+/// What a name stands for: `_event` for the name of the event, else the first variable with the
+/// name, else the first built-in variable with it, else nothing.
 pub fn name_ref(names: &Names, name: &str) -> NameRef
     ensures { result ≡ name_ref names.now (chars name.now) }
 {

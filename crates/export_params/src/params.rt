@@ -1,5 +1,6 @@
 ghost use Rattle.std.specs.Prelude.{◌≡◌, IfOk, map};
-ghost use Rattle.export_params.specs.Params.{template, integer, truth_of, boolean, param_of, params_of};
+ghost use Rattle.export_params.specs.Params.{template, integer, truth_of, boolean, param_of};
+ghost use Rattle.export_params.specs.Params.{params_of};
 
 use crate::names::Names;
 use crate::pieces::pieces_of;
@@ -9,7 +10,8 @@ use gtm_base::{OutOfMemory, Text};
 use gtm_data::whole_text;
 use std::alloc::Global;
 
-/// The parameter of the model that a written one stands for, with those inside it. Fails where memory is wanting.
+/// The parameter of the model that a written one stands for, with those inside it. Fails where
+/// memory is wanting.
 #[cycle(params)]
 pub fn param_of(alloc: Global, names: &Names, written: &WrittenParam) -> Result<Param, OutOfMemory>
     ensures { IfOk result (λ made. made ≡ param_of names.now written.now) }
@@ -34,7 +36,8 @@ fn value_of(alloc: Global, names: &Names, written: &WrittenParam) -> Result<Para
     }
 }
 
-/// The parameters of the model that written ones stand for, in order. Fails where memory is wanting.
+/// The parameters of the model that written ones stand for, in order. Fails where memory is
+/// wanting.
 #[cycle(params)]
 pub fn params_of(
     alloc: Global,

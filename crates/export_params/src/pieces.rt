@@ -8,7 +8,8 @@ use export_model::{Piece, Pieces};
 use gtm_base::{OutOfMemory, Text};
 use std::alloc::Global;
 
-/// The pieces of a text: each `{{name}}` as what the name stands for, and the characters around them. Fails where memory is wanting.
+/// The pieces of a text: each `{{name}}` as what the name stands for, and the characters around
+/// them. Fails where memory is wanting.
 pub fn pieces_of(alloc: Global, names: &Names, text: &str) -> Result<Pieces, OutOfMemory>
     ensures { IfOk result (λ made. made ≡ pieces_of names.now (chars text.now)) }
 {
@@ -26,7 +27,8 @@ pub fn pieces_of(alloc: Global, names: &Names, text: &str) -> Result<Pieces, Out
 // What stands before the first name of a text, the name, and what stands behind it.
 #[tactic(auto, unfolding(crate::specs::Cut::first_name))]
 fn first_name(text: &str) -> Option<(&str, &str, &str)>
-    ensures { option_map (λ found. (chars found.0.now, chars found.1.now, chars found.2.now)) result ≡ first_name (chars text.now) }
+    ensures { option_map (λ found. (chars found.0.now, chars found.1.now, chars found.2.now)) result
+        ≡ first_name (chars text.now) }
 {
     let (before, opened) = around_open(text)?;
     let (name, behind) = around_close(opened)?;
@@ -35,21 +37,25 @@ fn first_name(text: &str) -> Option<(&str, &str, &str)>
 
 // What stands before the first `{{`, and what stands behind it.
 fn around_open(text: &str) -> Option<(&str, &str)>
-    ensures { option_map (λ parts. (chars parts.0.now, chars parts.1.now)) result ≡ around_twice 123 (chars text.now) }
+    ensures { option_map (λ parts. (chars parts.0.now, chars parts.1.now)) result
+        ≡ around_twice 123 (chars text.now) }
 {
     text.split_once("{{")
 }
 
 // What stands before the first `}}`, and what stands behind it.
 fn around_close(text: &str) -> Option<(&str, &str)>
-    ensures { option_map (λ parts. (chars parts.0.now, chars parts.1.now)) result ≡ around_twice 125 (chars text.now) }
+    ensures { option_map (λ parts. (chars parts.0.now, chars parts.1.now)) result
+        ≡ around_twice 125 (chars text.now) }
 {
     text.split_once("}}")
 }
 
 // Puts a text behind as a literal, unless it is empty.
 fn push_literal(alloc: Global, pieces: &mut Pieces, text: &str) -> Result<(), OutOfMemory>
-    ensures { OnOk result ((names : NameLists) → pieces.new ≡ pieces.old ++ map (numbered names) (literal_of (chars text.now))) }
+    ensures { OnOk result
+        ((names : NameLists)
+        → pieces.new ≡ pieces.old ++ map (numbered names) (literal_of (chars text.now))) }
 {
     if !text.is_empty() {
         pieces.push(Piece::Literal(Text::from_str(alloc, text)?))?;

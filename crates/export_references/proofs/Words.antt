@@ -1,5 +1,6 @@
 -- Words of ASCII characters that texts begin with.
-use Rattle.std.proofs.Common.{◌≡◌, ℕ, List, [], ◌∷◌, ◌++◌, length, take, drop, eqb, Bool, true, false, true≢false, ltb, ◌&&◌, refl, ap, sym, ◌∙◌}
+use Rattle.std.proofs.Common.{◌≡◌, ℕ, List, [], ◌∷◌, ◌++◌, length, take, drop, eqb, Bool, true}
+use Rattle.std.proofs.Common.{false, true≢false, ltb, ◌&&◌, refl, ap, sym, ◌∙◌}
 use Rattle.std.specs.List.{starts_with}
 use Rattle.std.specs.Str.{bytes_eq}
 use Rattle.std.proofs.Math.Seq.{take-append_seam}
@@ -20,18 +21,25 @@ encodes_word : (word : List ℕ) → is_all_ascii word ≡ true → encodes word
 encodes_word [] ascii = refl
 encodes_word (b ∷ bs) ascii =
     let parts = both (ltb b 128) (is_all_ascii bs) ascii in
-    ap (λ front. front ++ encodes bs) (encode_ascii b (ltb-true b 128 parts.0)) ∙ ap (λ rest. b ∷ rest) (encodes_word bs parts.1)
+    ap (λ front. front ++ encodes bs) (encode_ascii b (ltb-true b 128 parts.0))
+    ∙ ap (λ rest. b ∷ rest) (encodes_word bs parts.1)
 
 -- a text whose bytes begin with a word begins with it
-by_bytes : (word cs rest : List ℕ) → is_all_ascii word ≡ true → encodes cs ≡ word ++ rest → take (length word) cs ≡ word
+by_bytes : (word cs rest : List ℕ) → is_all_ascii word ≡ true → encodes cs ≡ word ++ rest
+    → take (length word) cs ≡ word
 by_bytes [] cs rest ascii is = refl
 by_bytes (b ∷ bs) cs rest ascii is =
     let parts = both (ltb b 128) (is_all_ascii bs) ascii in
-    let found = cons_from_encodes cs (bs ++ rest) b (is ∙ ap (λ front. front ++ (bs ++ rest)) (sym (encode_ascii b (ltb-true b 128 parts.0)))) in
-    ap (take (length (b ∷ bs))) found.1 ∙ ap (λ front. b ∷ front) (by_bytes bs found.0 rest parts.1 found.2)
+    let found =
+    cons_from_encodes cs (bs ++ rest) b
+    (is ∙ ap (λ front. front ++ (bs ++ rest)) (sym (encode_ascii b (ltb-true b 128 parts.0))))
+    in
+    ap (take (length (b ∷ bs))) found.1
+    ∙ ap (λ front. b ∷ front) (by_bytes bs found.0 rest parts.1 found.2)
 
 -- and the other way round
-by_text : (word cs : List ℕ) → is_all_ascii word ≡ true → take (length word) cs ≡ word → take (length word) (encodes cs) ≡ word
+by_text : (word cs : List ℕ) → is_all_ascii word ≡ true → take (length word) cs ≡ word
+    → take (length word) (encodes cs) ≡ word
 by_text word cs ascii is =
     let rest = encodes (drop (length word) cs) in
     let whole : encodes cs ≡ word ++ rest =
@@ -42,13 +50,16 @@ by_text word cs ascii is =
     ap (take (length word)) whole ∙ take-append_seam word rest
 
 -- the bytes of a text begin with a word exactly where the text does
-pub begins_alike : (word cs : List ℕ) → is_all_ascii word ≡ true → starts_with eqb (encodes cs) word ≡ bytes_eq (take (length word) cs) word
+pub begins_alike : (word cs : List ℕ) → is_all_ascii word ≡ true
+    → starts_with eqb (encodes cs) word ≡ bytes_eq (take (length word) cs) word
 begins_alike word cs ascii =
     let bytes = encodes cs in
     let front = take (length word) bytes in
     let rest = drop (length word) bytes in
     same_from_decides {P = take (length word) cs ≡ word} _ _ (
-      (λ is. by_bytes word cs rest ascii (sym (take-append-drop (length word) bytes) ∙ ap (λ part. part ++ rest) (sym ((bytes_eq-Decides word front).0 is)))),
+      (λ is. by_bytes word cs rest ascii
+          (sym (take-append-drop (length word) bytes)
+          ∙ ap (λ part. part ++ rest) (sym ((bytes_eq-Decides word front).0 is)))),
       (λ is. (bytes_eq-Decides word front).1 (sym (by_text word cs ascii is))),
     )
     (bytes_eq-Decides (take (length word) cs) word)

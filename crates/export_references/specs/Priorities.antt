@@ -11,7 +11,8 @@ use Rattle.export_references.specs.FirstFault.{list_fault}
 
 -- the fault of a priority whose text is no whole number
 abbrev pub priority_fault : WrittenParam → Option (List ℕ)
-priority_fault param = if is_some (whole_text (value_of param)) then None else Some (in_key (codes "priority") [])
+priority_fault param =
+    if is_some (whole_text (value_of param)) then None else Some (in_key (codes "priority") [])
 
 -- the fault of a tag's priority: an absent one has none
 abbrev pub tag_fault : WrittenTag → Option (List ℕ)

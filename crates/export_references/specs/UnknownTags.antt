@@ -7,16 +7,21 @@ use Rattle.export_entries.specs.declared.entries.WrittenEntries.{WrittenEntries}
 use Rattle.export_entries.specs.declared.tags.WrittenTag.{WrittenTag}
 use Rattle.export_references.specs.FirstFault.{list_fault}
 
--- the fault of a tag's name in the list at a key, where no tag has it: the name of the list's one entry
+-- the fault of a tag's name in the list at a key, where no tag has it: the name of the list's one
+-- entry
 abbrev pub name_fault : List (List ℕ) → List ℕ → List ℕ → Option (List ℕ)
-name_fault names key name = if is_some (place_of name names) then None else Some (in_key key (in_index 0 (in_key (codes "tagName") [])))
+name_fault names key name =
+    if is_some (place_of name names) then None
+    else Some (in_key key (in_index 0 (in_key (codes "tagName") [])))
 
 -- the first unknown name of a tag: that of its setup tag, then that of its teardown tag
 abbrev pub tag_fault : List (List ℕ) → WrittenTag → Option (List ℕ)
 tag_fault names tag =
     option_map_or (λ setup. name_fault names (codes "setupTag") setup.tag) tag.turn.setup None
-    then option_map_or (λ teardown. name_fault names (codes "teardownTag") teardown.tag) tag.turn.teardown None
+    then option_map_or (λ teardown. name_fault names (codes "teardownTag") teardown.tag)
+    tag.turn.teardown None
 
 -- the path of the first name of a setup or teardown tag that no tag has
 abbrev pub unknown_sequence_tag : WrittenEntries → Option (List ℕ)
-unknown_sequence_tag written = list_fault (codes "tag") (tag_fault (map (λ tag. tag.name) written.tags)) written.tags
+unknown_sequence_tag written =
+    list_fault (codes "tag") (tag_fault (map (λ tag. tag.name) written.tags)) written.tags

@@ -32,7 +32,8 @@ fn is_decimal(text: &str) -> bool
     text.chars().all(|c| c.is_ascii_digit())
 }
 
-// The number that digits write, however many, or the first reserved one where it is higher. The digit 0 is the character 48.
+// The number that digits write, however many, or the first reserved one where it is higher. The
+// digit 0 is the character 48.
 fn capped_number(text: &str) -> u64
     ensures { result ≡ min (read_on 0 (chars text.now)) FIRST_RESERVED }
 {

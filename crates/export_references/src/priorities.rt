@@ -8,7 +8,9 @@ use gtm_base::{OutOfMemory, Text};
 use gtm_data::whole_text;
 use std::alloc::Global;
 
-/// The path, from the container version, of the first priority of a tag whose text is no whole number from -9007199254740991 to 9007199254740991. A tag without a priority is passed. `None` where each is one. Fails where memory is wanting.
+/// The path, from the container version, of the first priority of a tag whose text is no whole
+/// number from -9007199254740991 to 9007199254740991. A tag without a priority is passed. `None`
+/// where each is one. Fails where memory is wanting.
 pub fn priority_text(alloc: Global, written: &WrittenEntries) -> Result<Option<Text>, OutOfMemory>
     ensures { IfOk result (λ found. found ≡ priority_text written.now) }
 {

@@ -10,7 +10,9 @@ use gtm_base::{OutOfMemory, Text};
 use std::alloc::Global;
 use text_places::Places;
 
-/// The path, from the container version, of the first name of a setup or teardown tag that no tag has: of each tag, that of its setup tag before that of its teardown tag. `None` where a tag has each name. Fails where memory is wanting.
+/// The path, from the container version, of the first name of a setup or teardown tag that no tag
+/// has: of each tag, that of its setup tag before that of its teardown tag. `None` where a tag has
+/// each name. Fails where memory is wanting.
 pub fn unknown_sequence_tag(
     alloc: Global,
     written: &WrittenEntries,
@@ -25,7 +27,8 @@ pub fn unknown_sequence_tag(
 
 // The first unknown name of a tag.
 fn in_tags(alloc: Global, names: &Places, tags: &WrittenTags) -> Result<Option<Text>, OutOfMemory>
-    ensures { IfOk result (λ found. found ≡ list_fault (codes "tag") (tag_fault names.now) tags.now) }
+    ensures { IfOk result
+        (λ found. found ≡ list_fault (codes "tag") (tag_fault names.now) tags.now) }
 {
     for (at, tag) in tags.as_slice().iter().enumerate() {
         if let Some(path) = in_tag(alloc, names, tag)? {
@@ -53,7 +56,10 @@ fn in_setup(
     names: &Places,
     setup: &Option<WrittenSetup>,
 ) -> Result<Option<Text>, OutOfMemory>
-    ensures { IfOk result (λ found. found ≡ option_map_or (λ setup. name_fault names.now (codes "setupTag") setup.tag) setup.now None) }
+    ensures { IfOk result
+        (λ found. found
+        ≡ option_map_or (λ setup. name_fault names.now (codes "setupTag") setup.tag) setup.now
+        None) }
 {
     match setup {
         Some(setup) => in_name(alloc, names, "setupTag", &setup.tag),
@@ -67,7 +73,10 @@ fn in_teardown(
     names: &Places,
     teardown: &Option<WrittenTeardown>,
 ) -> Result<Option<Text>, OutOfMemory>
-    ensures { IfOk result (λ found. found ≡ option_map_or (λ teardown. name_fault names.now (codes "teardownTag") teardown.tag) teardown.now None) }
+    ensures { IfOk result
+        (λ found. found
+        ≡ option_map_or (λ teardown. name_fault names.now (codes "teardownTag") teardown.tag)
+        teardown.now None) }
 {
     match teardown {
         Some(teardown) => in_name(alloc, names, "teardownTag", &teardown.tag),

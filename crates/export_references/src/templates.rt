@@ -33,7 +33,9 @@ impl<'a> Types<'a> {
         own: &'a [&'a Text],
         gallery: &'a [&'a Text],
     ) -> Result<Types<'a>, OutOfMemory>
-        ensures { IfOk result (λ made. made ≡ record { own = map (λ t. t.now) own.now; gallery = map (λ t. t.now) gallery.now }) }
+        ensures { IfOk result
+            (λ made. made
+            ≡ record { own = map (λ t. t.now) own.now; gallery = map (λ t. t.now) gallery.now }) }
     {
         let own = Places::of(alloc, own)?;
         let gallery = Places::of(alloc, gallery)?;
@@ -48,7 +50,9 @@ impl<'a> Types<'a> {
     }
 }
 
-/// The path, from the container version, of the first type that begins with `cvt_`, as those of custom templates do, and that no template has: of those of tags, then of those of variables. `None` where a template has each. Fails where memory is wanting.
+/// The path, from the container version, of the first type that begins with `cvt_`, as those of
+/// custom templates do, and that no template has: of those of tags, then of those of variables.
+/// `None` where a template has each. Fails where memory is wanting.
 pub fn unknown_template(
     alloc: Global,
     written: &WrittenEntries,
@@ -69,7 +73,9 @@ pub fn unknown_template(
 
 // The first unknown type of a tag.
 fn in_tags(alloc: Global, types: &Types, tags: &WrittenTags) -> Result<Option<Text>, OutOfMemory>
-    ensures { IfOk result (λ found. found ≡ list_fault (codes "tag") (λ tag. type_fault types.now tag.kind) tags.now) }
+    ensures { IfOk result
+        (λ found. found
+        ≡ list_fault (codes "tag") (λ tag. type_fault types.now tag.kind) tags.now) }
 {
     for (at, tag) in tags.as_slice().iter().enumerate() {
         if is_unknown(types, &tag.kind) {
@@ -87,7 +93,10 @@ fn in_variables(
     types: &Types,
     variables: &WrittenVariables,
 ) -> Result<Option<Text>, OutOfMemory>
-    ensures { IfOk result (λ found. found ≡ list_fault (codes "variable") (λ variable. type_fault types.now variable.kind) variables.now) }
+    ensures { IfOk result
+        (λ found. found
+        ≡ list_fault (codes "variable") (λ variable. type_fault types.now variable.kind)
+        variables.now) }
 {
     for (at, variable) in variables.as_slice().iter().enumerate() {
         if is_unknown(types, &variable.kind) {

@@ -1,7 +1,9 @@
 ghost use Rattle.std.specs.Prelude.{◌≡◌, codes, IfOk, option_map};
 ghost use Rattle.export_fields.specs.Fault.{in_index};
 ghost use Rattle.export_references.specs.FirstFault.{list_fault};
-ghost use Rattle.export_references.specs.UnknownTriggers.{unknown_trigger, tag_fault, id_fault, group_fault, first_list_fault, members_fault};
+ghost use Rattle.export_references.specs.UnknownTriggers.{unknown_trigger, tag_fault, id_fault};
+ghost use Rattle.export_references.specs.UnknownTriggers.{group_fault, first_list_fault};
+ghost use Rattle.export_references.specs.UnknownTriggers.{members_fault};
 
 use crate::numbers::is_unknown;
 use crate::paths::{item_path, member_path};
@@ -12,7 +14,11 @@ use gtm_base::{OutOfMemory, Text, Texts};
 use std::alloc::Global;
 use text_places::Places;
 
-/// The path, from the container version, of the first number of a trigger that stands for none: of those of each tag, its firing triggers before its blocking ones, and then of those of each group's members. A number stands for the trigger of the container that has it, and one of at least 2147479000 for a trigger of Tag Manager's own. `None` where each stands for one. Fails where memory is wanting.
+/// The path, from the container version, of the first number of a trigger that stands for none: of
+/// those of each tag, its firing triggers before its blocking ones, and then of those of each
+/// group's members. A number stands for the trigger of the container that has it, and one of at
+/// least 2147479000 for a trigger of Tag Manager's own. `None` where each stands for one. Fails
+/// where memory is wanting.
 pub fn unknown_trigger(alloc: Global, written: &WrittenEntries) -> Result<Option<Text>, OutOfMemory>
     ensures { IfOk result (λ found. found ≡ unknown_trigger written.now) }
 {
@@ -73,7 +79,8 @@ fn in_groups(
     ids: &Places,
     triggers: &WrittenTriggers,
 ) -> Result<Option<Text>, OutOfMemory>
-    ensures { IfOk result (λ found. found ≡ list_fault (codes "trigger") (group_fault ids.now) triggers.now) }
+    ensures { IfOk result
+        (λ found. found ≡ list_fault (codes "trigger") (group_fault ids.now) triggers.now) }
 {
     for (at, trigger) in triggers.as_slice().iter().enumerate() {
         if let Some(path) = in_group(alloc, ids, trigger)? {
@@ -124,7 +131,8 @@ fn in_list_at(
     at: usize,
     param: &WrittenParam,
 ) -> Result<Option<Text>, OutOfMemory>
-    ensures { IfOk result (λ found. found ≡ option_map (in_index at) (members_fault ids.now param.now)) }
+    ensures { IfOk result
+        (λ found. found ≡ option_map (in_index at) (members_fault ids.now param.now)) }
 {
     match in_members(alloc, ids, param)? {
         Some(path) => Ok(Some(index_before(alloc, at, &path)?)),

@@ -10,7 +10,8 @@ pub struct Row {
     pub path: &'static str,
 }
 
-/// The rule that is told of an export and its path, or 0 and the empty path where its container is read.
+/// The rule that is told of an export and its path, or 0 and the empty path where its container is
+/// read.
 pub fn told(alloc: Global, export: &[u8]) -> Result<(u8, Text), OutOfMemory> {
     match read_container(alloc, export) {
         Ok(_) => Ok((0, Text::new(alloc))),

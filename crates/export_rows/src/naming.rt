@@ -12,7 +12,8 @@ enum Wanted {
     Names(NameRef),
 }
 
-// A text, and its pieces where the variables are `Value` and `Event`, and the built-in variables `Event` and `Page URL`.
+// A text, and its pieces where the variables are `Value` and `Event`, and the built-in variables
+// `Event` and `Page URL`.
 struct Row {
     text: &'static str,
     pieces: &'static [Wanted],

@@ -9,7 +9,8 @@ use std::test::Fail;
 const EXPORT: &[u8] =
     br#"{"exportFormatVersion":2,"exportTime":"2024-05-01 10:00:00","containerVersion":{"containerVersionId":"0","container":{"publicId":"GTM-ABC123","name":"shop","usageContext":["WEB"]},"tag":[{"tagId":"3","name":"GA4","type":"gaawe","parameter":[{"type":"BOOLEAN","key":"sendEcommerceData","value":"false"},{"type":"TEMPLATE","key":"eventName","value":"{{Event}}"}],"firingTriggerId":["2147479553"],"tagFiringOption":"ONCE_PER_EVENT","monitoringMetadata":{"type":"MAP"},"consentSettings":{"consentStatus":"NOT_SET"}},{"tagId":"4","name":"Pixel","type":"cvt_7_9","priority":{"type":"INTEGER","value":"5"},"parameter":[{"type":"TEMPLATE","key":"value","value":"{{Value}}"}],"notes":"buy","firingTriggerId":["5"],"parentFolderId":"8","tagFiringOption":"ONCE_PER_EVENT","consentSettings":{"consentStatus":"NEEDED","consentType":{"type":"LIST","list":[{"type":"TEMPLATE","value":"ad_storage"}]}}}],"trigger":[{"triggerId":"5","name":"Purchase","type":"CUSTOM_EVENT","customEventFilter":[{"type":"EQUALS","parameter":[{"type":"TEMPLATE","key":"arg0","value":"{{_event}}"},{"type":"TEMPLATE","key":"arg1","value":"purchase"}]}]}],"variable":[{"variableId":"6","name":"Value","type":"v","parameter":[{"type":"INTEGER","key":"dataLayerVersion","value":"2"},{"type":"TEMPLATE","key":"name","value":"value"}],"formatValue":{}}],"builtInVariable":[{"type":"EVENT","name":"Event"}],"folder":[{"folderId":"8","name":"Ads"}],"customTemplate":[{"containerId":"7","templateId":"9","name":"Pixel","templateData":"___INFO___\n\n{}\n"}]}}"#;
 
-// The container is named, each list has as many entries as are shown, and no number is that of a trigger that never holds.
+// The container is named, each list has as many entries as are shown, and no number is that of a
+// trigger that never holds.
 #[test]
 fn a_realistic_export(rt: HostRuntime) -> Result<(), Fail> {
     let container = read_container(rt.alloc(), EXPORT)?;
@@ -86,7 +87,8 @@ fn the_tag_of_a_pixel(rt: HostRuntime) -> Result<(), Fail> {
     Ok(())
 }
 
-// Whether a tag fires once for an event at any time, without a blocking trigger and without a setup or teardown tag.
+// Whether a tag fires once for an event at any time, without a blocking trigger and without a setup
+// or teardown tag.
 fn is_plain_turn(tag: &Tag) -> bool {
     tag.blocking.is_empty()
         && tag.option == FiringOption::OncePerEvent

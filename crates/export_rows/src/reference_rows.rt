@@ -1,7 +1,8 @@
 use crate::judging::{Row, told, told_whole, with_version};
 use std::test::Fail;
 
-// Members of a container version, with names, references and rings. Rule 0 says that its container is read.
+// Members of a container version, with names, references and rings. Rule 0 says that its container
+// is read.
 const REFERENCES: &[Row] = &[
     Row {
         name: "a firing trigger that is none",

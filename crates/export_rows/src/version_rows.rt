@@ -1,6 +1,7 @@
 use crate::judging::Row;
 
-/// Members of container versions. Where a row breaks two rules, the least is told, also where its path comes later.
+/// Members of container versions. Where a row breaks two rules, the least is told, also where its
+/// path comes later.
 pub const VERSIONS: &[Row] = &[
     Row {
         name: "only a server",

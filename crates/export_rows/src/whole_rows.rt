@@ -1,6 +1,7 @@
 use crate::judging::Row;
 
-/// Exports that are broken as a whole. Where a row breaks two rules, the least is told, also where its path comes later.
+/// Exports that are broken as a whole. Where a row breaks two rules, the least is told, also where
+/// its path comes later.
 pub const WHOLES: &[Row] = &[
     Row {
         name: "no text",

@@ -1,4 +1,5 @@
--- Places that refer to places. A graph has for each place, counted from 0, those that it refers to; what is behind its last place refers to nothing.
+-- Places that refer to places. A graph has for each place, counted from 0, those that it refers to;
+-- what is behind its last place refers to nothing.
 use Rattle.std.specs.Prelude.{◌≡◌, ◌<◌, ℕ, zero, suc, List, Contains, IsSomeAnd, slice_get}
 
 -- a place refers to another one

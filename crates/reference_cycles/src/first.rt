@@ -51,7 +51,8 @@ fn nothing_rises(graph: &[ListOf<usize>], levels: &[usize]) -> bool
 
 /// The first place that refers to one of no lower level.
 fn first_flat(graph: &[ListOf<usize>], levels: &[usize]) -> Option<usize>
-    ensures { MatchOption result ((place : ℕ) → RefersLower graph.now levels.now place) (IsFirstFlat graph.now levels.now) }
+    ensures { MatchOption result ((place : ℕ) → RefersLower graph.now levels.now place)
+        (IsFirstFlat graph.now levels.now) }
 {
     for place in 0..graph.len() {
         if !refers_lower(graph, levels, place) {
@@ -61,18 +62,22 @@ fn first_flat(graph: &[ListOf<usize>], levels: &[usize]) -> Option<usize>
     None
 }
 
-/// The first place that leads back to itself through references, or none. In time about linear in places plus references, on any graph; it does not recurse. Fails where memory is wanting.
+/// The first place that leads back to itself through references, or none. In time about linear in
+/// places plus references, on any graph; it does not recurse. Fails where memory is wanting.
 pub fn first_on_cycle(alloc: Global, graph: &[ListOf<usize>]) -> Result<Option<usize>, OutOfMemory>
-    ensures found { IfOk result (λ found. MatchOption found (HasNoCycle graph.now) (IsFirstOnCycle graph.now)) }
+    ensures found { IfOk result
+        (λ found. MatchOption found (HasNoCycle graph.now) (IsFirstOnCycle graph.now)) }
     ensures computed { IfOk result (λ found. found ≡ first_cycle graph.now) }
 {
     let found = first_by_levels(alloc, graph)?;
     Ok(found)
 }
 
-/// The first place that leads back to itself, by the levels of the strongly connected components; by a search from each place in turn where these are not what they have to be.
+/// The first place that leads back to itself, by the levels of the strongly connected components;
+/// by a search from each place in turn where these are not what they have to be.
 fn first_by_levels(alloc: Global, graph: &[ListOf<usize>]) -> Result<Option<usize>, OutOfMemory>
-    ensures { IfOk result (λ found. MatchOption found (HasNoCycle graph.now) (IsFirstOnCycle graph.now)) }
+    ensures { IfOk result
+        (λ found. MatchOption found (HasNoCycle graph.now) (IsFirstOnCycle graph.now)) }
 {
     let levels = component_levels(alloc, graph)?;
     let levels = levels.as_slice();

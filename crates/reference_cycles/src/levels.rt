@@ -11,7 +11,8 @@ struct Visit {
     next: usize,
 }
 
-/// A depth-first search for strongly connected components, each of which gets a level when it is complete.
+/// A depth-first search for strongly connected components, each of which gets a level when it is
+/// complete.
 #[derive(Drop)]
 struct Components {
     /// When each place was entered, counted from 1, and 0 before that.
@@ -61,7 +62,8 @@ impl Components {
         Ok(())
     }
 
-    /// Goes one reference further: into the place that it leads to, or back out of this one where none is left.
+    /// Goes one reference further: into the place that it leads to, or back out of this one where
+    /// none is left.
     fn follow(&mut self, visit: Visit, references: &[usize]) -> Result<(), OutOfMemory> {
         match references.get(visit.next) {
             Some(to) => {
@@ -100,7 +102,8 @@ impl Components {
         }
     }
 
-    /// Is done with a place: finishes its component where nothing on the stack before it is led to, and tells the place that led here how far back it leads.
+    /// Is done with a place: finishes its component where nothing on the stack before it is led to,
+    /// and tells the place that led here how far back it leads.
     fn leave(&mut self, place: usize) {
         let earliest = number_at(self.earliest.as_slice(), place);
         if earliest == number_at(self.entered.as_slice(), place) {
@@ -145,7 +148,9 @@ fn steps(graph: &[ListOf<usize>]) -> usize {
     steps
 }
 
-/// A level for each place, so that no place refers to one of a higher level, and two places have the same one where each leads to the other. Nothing is promised of them: who uses them has to look.
+/// A level for each place, so that no place refers to one of a higher level, and two places have
+/// the same one where each leads to the other. Nothing is promised of them: who uses them has to
+/// look.
 pub fn component_levels(alloc: Global, graph: &[ListOf<usize>]) -> Result<Vec<usize>, OutOfMemory> {
     let mut components = Components::new(alloc, graph.len())?;
     let mut root = 0usize;

@@ -1,4 +1,5 @@
-ghost use Rattle.std.specs.Prelude.{◌≡◌, ◌<◌, ◌↔◌, ◌∷◌, [], length, replicate, false, IsTrue, Contains, IfOk, OnOk};
+ghost use Rattle.std.specs.Prelude.{◌≡◌, ◌<◌, ◌↔◌, ◌∷◌, [], length, replicate, false, IsTrue};
+ghost use Rattle.std.specs.Prelude.{Contains, IfOk, OnOk};
 ghost use Rattle.reference_cycles.specs.Reached.{IsMarked, Grows};
 
 use gtm_base::OutOfMemory;
@@ -36,7 +37,9 @@ impl Reached {
         requires { IsMarked self.old.marks.items self.old.places.items }
         ensures marked { OnOk result (IsMarked self.new.marks.items self.new.places.items) }
         ensures room { length self.new.marks.items ≡ length self.old.marks.items }
-        ensures grows { OnOk result (Grows (length self.old.marks.items) (place ∷ []) self.old.places.items self.new.places.items) }
+        ensures grows { OnOk result
+            (Grows (length self.old.marks.items) (place ∷ []) self.old.places.items
+            self.new.places.items) }
     {
         if place < self.marks.len() && !self.marks[place] {
             self.marks[place] = true;
@@ -50,7 +53,9 @@ impl Reached {
         requires { IsMarked self.old.marks.items self.old.places.items }
         ensures marked { OnOk result (IsMarked self.new.marks.items self.new.places.items) }
         ensures room { length self.new.marks.items ≡ length self.old.marks.items }
-        ensures grows { OnOk result (Grows (length self.old.marks.items) places.now self.old.places.items self.new.places.items) }
+        ensures grows { OnOk result
+            (Grows (length self.old.marks.items) places.now self.old.places.items
+            self.new.places.items) }
     {
         for place in places {
             self.add(*place)?;

@@ -23,7 +23,8 @@ pub fn leads_back(alloc: Global, graph: &[ListOf<usize>], start: usize) -> Resul
 
 /// The first place that leads back to itself, by a search from each place in turn.
 pub fn first_by_search(alloc: Global, graph: &[ListOf<usize>]) -> Result<Option<usize>, OutOfMemory>
-    ensures { IfOk result (λ found. MatchOption found (HasNoCycle graph.now) (IsFirstOnCycle graph.now)) }
+    ensures { IfOk result
+        (λ found. MatchOption found (HasNoCycle graph.now) (IsFirstOnCycle graph.now)) }
 {
     for place in 0..graph.len() {
         if leads_back(alloc, graph, place)? {

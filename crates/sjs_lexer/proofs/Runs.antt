@@ -1,5 +1,6 @@
 -- Runs of characters that pass a test.
-use Rattle.std.proofs.Common.{◌≡◌, ℕ, ◌≤◌, not, List, [], ◌∷◌, ◌++◌, length, Bool, true, false, refl, ap, arith}
+use Rattle.std.proofs.Common.{◌≡◌, ℕ, ◌≤◌, not, List, [], ◌∷◌, ◌++◌, length, Bool, true, false}
+use Rattle.std.proofs.Common.{refl, ap, arith}
 use Rattle.std.specs.Prelude.{if◌then◌else◌}
 use Rattle.std.specs.List.{list_all}
 use Rattle.std.proofs.lemmas.Bool.Decides.{nat_tests}
@@ -19,15 +20,24 @@ pub record IsRun (passes : ℕ → Bool) (text rest : List ℕ) : Type 0 where
 pub run_of : (passes : ℕ → Bool) (text : List ℕ) → IsRun passes text (skip_while passes text)
 run_of passes [] = record { word = []; split = refl; all = refl; stops = refl }
 run_of passes (c ∷ cs) =
-    elim (passes c) as (λ b. passes c ≡ b → IsRun passes (c ∷ cs) (if b then skip_while passes cs else c ∷ cs)) [
+    elim (passes c) as
+    (λ b. passes c ≡ b → IsRun passes (c ∷ cs) (if b then skip_while passes cs else c ∷ cs)) [
       | true ↦ λ yes.
           let run = run_of passes cs in
-          record { word = c ∷ run.word; split = ap (λ t. c ∷ t) run.split; all = rw (yes, run.all); stops = run.stops }
+          record {
+            word =
+                c ∷ run.word;
+            split =
+                ap (λ t. c ∷ t) run.split;
+            all = rw (yes, run.all);
+            stops = run.stops;
+          }
       | false ↦ λ no. record { word = []; split = refl; all = refl; stops = rw no }
     ] refl
 
 -- no run of such characters at the front is longer than one that stops
-pub longest_run : (passes : ℕ → Bool) (word rest other more : List ℕ) → word ++ rest ≡ other ++ more → list_all passes other ≡ true → fails_first passes rest ≡ true → length other ≤ length word
+pub longest_run : (passes : ℕ → Bool) (word rest other more : List ℕ) → word ++ rest ≡ other ++ more
+    → list_all passes other ≡ true → fails_first passes rest ≡ true → length other ≤ length word
 longest_run passes word rest [] more split all stops = omega arith
 longest_run passes [] rest (d ∷ ds) more split all stops =
     let stop : fails_first passes (d ∷ (ds ++ more)) ≡ true = rw split at stops in

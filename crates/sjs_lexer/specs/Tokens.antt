@@ -1,13 +1,15 @@
 -- The tokens of a text: it is white space and comments with the tokens between them, each the
 -- longest that can be read there.
-use Rattle.std.specs.Prelude.{◌≡◌, ◌≢◌, ℕ, ◌-◌, ◌≤◌, ◌==◌, ◌||◌, ◌&&◌, not, pos, List, [], ◌∷◌, ◌++◌, length, Bool, true, false, Some, encode_utf8_all}
+use Rattle.std.specs.Prelude.{◌≡◌, ◌≢◌, ℕ, ◌-◌, ◌≤◌, ◌==◌, ◌||◌, ◌&&◌, not, pos, List, [], ◌∷◌}
+use Rattle.std.specs.Prelude.{◌++◌, length, Bool, true, false, Some, encode_utf8_all}
 use Rattle.std.specs.Char.{is_ascii_alphanumeric}
 use Rattle.std.specs.List.{list_all, list_any}
 use Rattle.sjs_syntax.specs.Words.{is_word, is_sign}
 use Rattle.sjs_lexer.specs.declared.token.Token.{Token}
 use Rattle.sjs_lexer.specs.declared.token.TokenKind.{TokenKind}
 use Rattle.sjs_lexer.specs.declared.token.TokenKind.TheVariants as kind
-use Rattle.sjs_lexer.specs.Characters.{is_line_end, is_in_line, is_white, is_name_start, is_name_char}
+use Rattle.sjs_lexer.specs.Characters.{is_line_end, is_in_line, is_white, is_name_start}
+use Rattle.sjs_lexer.specs.Characters.{is_name_char}
 use Rattle.sjs_lexer.specs.Digits.{number_of, written}
 use Rattle.sjs_lexer.specs.Escapes.{escaped, is_scalar, is_high, is_low, joined}
 

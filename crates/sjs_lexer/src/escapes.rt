@@ -2,7 +2,8 @@ ghost use Rattle.std.specs.Prelude.{◌≡◌, ◌≤◌, IfSome};
 ghost use Rattle.std.specs.Bool.{OnTrue};
 ghost use Rattle.std.specs.Str.{chars};
 ghost use Rattle.sjs_lexer.specs.Escapes.{is_high, is_low, joined, escaped, itself};
-ghost use Rattle.sjs_lexer.specs.Reading.{seen, hex_from, braced_from, braced_at, scalar_at, low_at, pair_at, code_at, unicode_at, escape_at};
+ghost use Rattle.sjs_lexer.specs.Reading.{seen, hex_from, braced_from, braced_at, scalar_at};
+ghost use Rattle.sjs_lexer.specs.Reading.{low_at, pair_at, code_at, unicode_at, escape_at};
 
 use crate::characters::is_line_end;
 use crate::digits::push_digit;

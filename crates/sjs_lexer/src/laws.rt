@@ -21,8 +21,8 @@ pub fn tokens_lie_in_the_text()
     ensures { (text : List ℕ) (some : List Token) → AreTokens text some → LieIn 0 text some }
 {}
 
-/// A law, with nothing to call: one or more digits of a base write their value, where it is not over
-/// the limit.
+/// A law, with nothing to call: one or more digits of a base write their value, where it is not
+/// over the limit.
 pub fn digits_write_their_value()
     ensures { (base limit number : ℕ) (digits : List ℕ) → 1 ≤ base →
         (written base limit digits ≡ Some number) ↔

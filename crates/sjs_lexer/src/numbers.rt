@@ -1,6 +1,7 @@
 ghost use Rattle.std.specs.Prelude.{◌≡◌, ◌≤◌, IfSome};
 ghost use Rattle.std.specs.Str.{chars};
-ghost use Rattle.sjs_lexer.specs.Reading.{seen, number_from, number_at, behind_zero_at, hex_number_at};
+ghost use Rattle.sjs_lexer.specs.Reading.{seen, number_from, number_at, behind_zero_at};
+ghost use Rattle.sjs_lexer.specs.Reading.{hex_number_at};
 
 use crate::digits::push_digit;
 use crate::steps::next;

@@ -3,7 +3,16 @@
 use Rattle.std.specs.Prelude.{ℤ, pos, negsuc, ◌≤ℤ◌, Bool, true, false, IsTrue}
 use Rattle.sjs_syntax.specs.declared.statements.Binding.{Binding}
 use Rattle.sjs_syntax.specs.declared.statements.Binding.TheVariants.{Var, Let, Const}
-use Rattle.sjs_syntax.specs.Tree.{ExprTree, number, text, bool, null, undefined, name, round, list, object, function, arrow, assign, choose, pair, one, step, member, index, call, MaybeExpr, no_expr, some_expr, ExprTrees, no_exprs, more_exprs, MemberTrees, no_members, more_members, BodyTree, block_body, value_body, PlaceTree, name_place, member_place, index_place, DeclaratorTrees, no_declarators, more_declarators, InitTree, no_init, declare_init, value_init, StmtTree, block, empty, declare, named_function, if_, while_, do_while, for_, for_in, break_, continue_, return_, value, MaybeStmt, no_stmt, some_stmt, StmtTrees, no_stmts, more_stmts}
+use Rattle.sjs_syntax.specs.Tree.{ExprTree, number, text, bool, null, undefined, name, round, list}
+use Rattle.sjs_syntax.specs.Tree.{object, function, arrow, assign, choose, pair, one, step, member}
+use Rattle.sjs_syntax.specs.Tree.{index, call, MaybeExpr, no_expr, some_expr, ExprTrees, no_exprs}
+use Rattle.sjs_syntax.specs.Tree.{more_exprs, MemberTrees, no_members, more_members, BodyTree}
+use Rattle.sjs_syntax.specs.Tree.{block_body, value_body, PlaceTree, name_place, member_place}
+use Rattle.sjs_syntax.specs.Tree.{index_place, DeclaratorTrees, no_declarators, more_declarators}
+use Rattle.sjs_syntax.specs.Tree.{InitTree, no_init, declare_init, value_init, StmtTree, block}
+use Rattle.sjs_syntax.specs.Tree.{empty, declare, named_function, if_, while_, do_while, for_}
+use Rattle.sjs_syntax.specs.Tree.{for_in, break_, continue_, return_, value, MaybeStmt, no_stmt}
+use Rattle.sjs_syntax.specs.Tree.{some_stmt, StmtTrees, no_stmts, more_stmts}
 
 -- from -9007199254740991 to 9007199254740991
 abbrev pub IsInRange : ℤ → Type 0

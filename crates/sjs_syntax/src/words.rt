@@ -2,7 +2,8 @@ ghost use Rattle.std.specs.Prelude.{◌≡◌, IfSome, IfNone, nat_eq, option_ma
 ghost use Rattle.std.specs.List.{starts_with};
 ghost use Rattle.std.specs.Str.{chars};
 ghost use Rattle.sjs_syntax.specs.Entries.{entries};
-ghost use Rattle.sjs_syntax.specs.Words.{is_entry, is_left_out_entry, first_entry, words, signs, is_word, is_left_out, IsLongestSign, BeginsWithNoSign};
+ghost use Rattle.sjs_syntax.specs.Words.{is_entry, is_left_out_entry, first_entry, words, signs};
+ghost use Rattle.sjs_syntax.specs.Words.{is_word, is_left_out, IsLongestSign, BeginsWithNoSign};
 
 use Standing::{Grammar, LeftOut};
 
@@ -16,8 +17,8 @@ pub enum Standing {
     LeftOut,
 }
 
-/// The reserved words: none of them is a name. They are those of ECMAScript 2015 (11.6.2), and `let`,
-/// `undefined`, `arguments`, `async`, `await` and `of`, which may be names there.
+/// The reserved words: none of them is a name. They are those of ECMAScript 2015 (11.6.2), and
+/// `let`, `undefined`, `arguments`, `async`, `await` and `of`, which may be names there.
 pub const WORDS: [(&str, Standing); 42] = [
     ("if", Grammar),
     ("else", Grammar),

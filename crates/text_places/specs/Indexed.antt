@@ -9,4 +9,5 @@ use denote.Ref.{Bor}
 
 -- the map has the first place of each of these texts, and no other text
 pub record Indexes (first : BTreeMap (Bor (List ℕ)) ℕ) (texts : List (List ℕ)) : Type 0 where
-  pub places : (key : List ℕ) → IsUtf8 key → get_by (λ k. slice_cmp nat_cmp key k.now) first ≡ place_of (chars key) texts
+  pub places : (key : List ℕ) → IsUtf8 key
+      → get_by (λ k. slice_cmp nat_cmp key k.now) first ≡ place_of (chars key) texts

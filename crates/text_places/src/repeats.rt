@@ -5,7 +5,8 @@ use gtm_base::{OutOfMemory, Text};
 use std::alloc::Global;
 use std::collections::BTreeMap;
 
-/// The place, counted from 0, of the first text that stood before, or `None` where no text stands twice. Fails where memory is wanting.
+/// The place, counted from 0, of the first text that stood before, or `None` where no text stands
+/// twice. Fails where memory is wanting.
 pub fn first_repeat(alloc: Global, texts: &[&Text]) -> Result<Option<usize>, OutOfMemory>
     ensures first { let contents = map (λ t. t.now) texts.now in
         IfOk result (λ found. MatchOption found (AllDifferent contents) (IsFirstRepeat contents)) }

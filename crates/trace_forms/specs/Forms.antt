@@ -1,11 +1,15 @@
--- The forms of a line: an object with exactly the members of one of them. The members stand in the order of the bytes of their keys.
-use Rattle.std.specs.Prelude.{ℕ, pos, suc, List, [], ◌∷◌, Bool, true, false, Option, Some, None, ◌&&◌, not, option_map, option_and_then, if◌then◌else◌, codes}
+-- The forms of a line: an object with exactly the members of one of them. The members stand in the
+-- order of the bytes of their keys.
+use Rattle.std.specs.Prelude.{ℕ, pos, suc, List, [], ◌∷◌, Bool, true, false, Option, Some, None}
+use Rattle.std.specs.Prelude.{◌&&◌, not, option_map, option_and_then, if◌then◌else◌, codes}
 use Rattle.std.specs.Option.{option_map_or}
 use Rattle.std.specs.List.{list_any}
 use Rattle.std.specs.Str.{bytes_eq}
 use Rattle.gtm_data.specs.Paths.{member}
-use Rattle.gtm_data.specs.Tree.{Tree, bool, whole, list, object, Trees, end, item, Entries, none, entry, text_in}
-use Rattle.trace_forms.specs.Steps.{Fact, page, cookie, global, returns, time, Step, fact, push, args, load, vendor, Reading, step, bad}
+use Rattle.gtm_data.specs.Tree.{Tree, bool, whole, list, object, Trees, end, item, Entries, none}
+use Rattle.gtm_data.specs.Tree.{entry, text_in}
+use Rattle.trace_forms.specs.Steps.{Fact, page, cookie, global, returns, time, Step, fact, push}
+use Rattle.trace_forms.specs.Steps.{args, load, vendor, Reading, step, bad}
 
 -- a step where there is one, and else rule 6: a member of another kind
 abbrev pub step_or_kind : Option Step → Reading
@@ -40,11 +44,16 @@ text_at key es = option_and_then text_in (member key es)
 
 -- the facts of a page with these members
 abbrev pub page_fact : Entries → Fact
-page_fact es = page (text_at (codes "url") es) (text_at (codes "referrer") es) (text_at (codes "title") es) (text_at (codes "charset") es) (text_at (codes "region") es) None None
+page_fact es =
+    page (text_at (codes "url") es) (text_at (codes "referrer") es) (text_at (codes "title") es)
+    (text_at (codes "charset") es) (text_at (codes "region") es) None None
 
--- what the members of a page say: rule 5 for one that is not listed, and then rule 6 for one that is no text
+-- what the members of a page say: rule 5 for one that is not listed, and then rule 6 for one that
+-- is no text
 abbrev pub page_of : Entries → Reading
-page_of es = if not (are_listed es) then bad 5 else if are_texts es then step (fact (page_fact es)) else bad 6
+page_of es =
+    if not (are_listed es) then bad 5 else if are_texts es then step (fact (page_fact es))
+    else bad 6
 
 -- what a page says
 abbrev pub page_in : Tree → Reading
@@ -62,7 +71,8 @@ has_region _ = false
 
 -- the arguments set the default of consent for regions
 abbrev pub is_regional : Trees → Bool
-is_regional (item command (item kind (item settings ts))) = is_word (codes "consent") command && is_word (codes "default") kind && has_region settings
+is_regional (item command (item kind (item settings ts))) =
+    is_word (codes "consent") command && is_word (codes "default") kind && has_region settings
 is_regional _ = false
 
 -- what a list of arguments says: rule 7 for a default of consent for regions
@@ -88,7 +98,8 @@ truth_in _ = None
 -- the texts of items, where all are texts
 abbrev pub texts_in : Trees → Option (List (List ℕ))
 texts_in end = Some []
-texts_in (item t ts) = option_and_then (λ characters. option_map (λ more. characters ∷ more) (texts_in ts)) (text_in t)
+texts_in (item t ts) =
+    option_and_then (λ characters. option_map (λ more. characters ∷ more) (texts_in ts)) (text_in t)
 
 -- the texts of a List of texts
 abbrev pub listed_texts : Tree → Option (List (List ℕ))
@@ -97,11 +108,15 @@ listed_texts _ = None
 
 -- how something of this number ended
 abbrev pub ended : (ℕ → Bool → Step) → Tree → Tree → Reading
-ended made number ok = step_or_kind (option_and_then (λ n. option_map (made n) (truth_in ok)) (counted_in number))
+ended made number ok =
+    step_or_kind (option_and_then (λ n. option_map (made n) (truth_in ok)) (counted_in number))
 
 -- the values of a cookie
 abbrev pub cookie_in : Tree → Tree → Reading
-cookie_in name values = step_or_kind (option_and_then (λ n. option_map (λ vs. fact (cookie n vs)) (listed_texts values)) (text_in name))
+cookie_in name values =
+    step_or_kind
+    (option_and_then (λ n. option_map (λ vs. fact (cookie n vs)) (listed_texts values))
+    (text_in name))
 
 -- a global of this key
 abbrev pub global_in : (List ℕ → Fact) → Tree → Reading
@@ -130,8 +145,10 @@ pair first t second u =
     if are_keys first second (codes "load") (codes "ok") then ended load t u
     else if are_keys first second (codes "ok") (codes "vendor") then ended vendor u t
     else if are_keys first second (codes "cookie") (codes "values") then cookie_in t u
-    else if are_keys first second (codes "global") (codes "value") then global_in (λ key. global key u) t
-    else if are_keys first second (codes "global") (codes "returns") then global_in (λ key. returns key u) t
+    else if are_keys first second (codes "global") (codes "value")
+    then global_in (λ key. global key u) t
+    else if are_keys first second (codes "global") (codes "returns")
+    then global_in (λ key. returns key u) t
     else bad 5
 
 -- what a line's value says: rule 5 for one of no form

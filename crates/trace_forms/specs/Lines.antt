@@ -12,7 +12,8 @@ use Rattle.trace_forms.specs.Steps.{Reading, blank, bad}
 abbrev pub is_blank : List ℕ → Bool
 is_blank text = list_all (λ b. (b == 32) || (b == 9) || (b == 13)) text
 
--- rule 3 for a JSON tree with a number that is not whole or out of range, else rule 4: it nests over 64 deep
+-- rule 3 for a JSON tree with a number that is not whole or out of range, else rule 4: it nests
+-- over 64 deep
 abbrev pub bad_tree : Option (List ℕ) → Reading
 bad_tree (Some path) = bad 3
 bad_tree None = bad 4

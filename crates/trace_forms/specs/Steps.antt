@@ -5,8 +5,10 @@ use Rattle.gtm_data.specs.Tree.{Tree}
 
 -- what is known of a page
 pub data Fact : Type 0 where
-  -- the address, the referrer, the title, the character set and the region, where they are told, and the two addresses where they were read
-  page : (url referrer title charset region : Option (List ℕ)) → (url_address referrer_address : Option Address) → Fact
+  -- the address, the referrer, the title, the character set and the region, where they are told,
+  -- and the two addresses where they were read
+  page : (url referrer title charset region : Option (List ℕ))
+      → (url_address referrer_address : Option Address) → Fact
   -- all values of the cookie of a name
   cookie : (name : List ℕ) → (values : List (List ℕ)) → Fact
   -- the value of a global variable

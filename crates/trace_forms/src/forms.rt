@@ -68,7 +68,8 @@ fn read_pair(
     second: &Text,
     other: Data,
 ) -> Result<LineRead, OutOfMemory>
-    ensures { IfOk result (λ read. reading_of read ≡ pair first.now (tree_of value) second.now (tree_of other)) }
+    ensures { IfOk result
+        (λ read. reading_of read ≡ pair first.now (tree_of value) second.now (tree_of other)) }
 {
     if are_keys(first, second, "load", "ok") {
         return Ok(read_load(&value, &other));

@@ -11,7 +11,11 @@ use gtm_data::{DataEnd, from_json, json_of};
 use serde_json::Value;
 use std::alloc::Global;
 
-/// What a line of a trace says, without its LF. `Bad` tells the least rule that it breaks: 2 it is no JSON text; 3 a number is not whole, or lies outside of -9007199254740991 to 9007199254740991; 4 it nests over 64 Lists and Maps deep; 5 it has none of the forms, or a page has a member that is not listed; 6 a member is of another kind; 7 it sets the default of consent for regions. Fails where memory is wanting.
+/// What a line of a trace says, without its LF. `Bad` tells the least rule that it breaks: 2 it is
+/// no JSON text; 3 a number is not whole, or lies outside of -9007199254740991 to 9007199254740991;
+/// 4 it nests over 64 Lists and Maps deep; 5 it has none of the forms, or a page has a member that
+/// is not listed; 6 a member is of another kind; 7 it sets the default of consent for regions.
+/// Fails where memory is wanting.
 pub fn read_line(alloc: Global, text: &[u8]) -> Result<LineRead, OutOfMemory>
     ensures { IfOk result (λ read. reading_of read ≡ line_of text.now) }
 {
@@ -34,7 +38,8 @@ fn is_blank(text: &[u8]) -> bool
 
 // What a line of this JSON tree says.
 fn read_tree(alloc: Global, tree: &Value) -> Result<LineRead, OutOfMemory>
-    ensures { IfOk result (λ read. reading_of read ≡ reading_of_data (view tree.now) (plain (view tree.now))) }
+    ensures { IfOk result
+        (λ read. reading_of read ≡ reading_of_data (view tree.now) (plain (view tree.now))) }
 {
     match from_json(alloc, tree) {
         Ok(data) => read_form(alloc, data),

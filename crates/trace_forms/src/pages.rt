@@ -2,7 +2,8 @@ ghost use Rattle.std.specs.Prelude.{◌≡◌, ℕ, List, false, IsTrue};
 ghost use Rattle.std.specs.Str.{chars, bytes_eq};
 ghost use Rattle.gtm_base.specs.Ascii.{is_all_ascii};
 ghost use Rattle.gtm_data.specs.Tree.{tree_of, entries_of};
-ghost use Rattle.trace_forms.specs.Forms.{page_in, page_of, page_fact, page_keys, is_among, are_listed, are_texts, is_text, text_at};
+ghost use Rattle.trace_forms.specs.Forms.{page_in, page_of, page_fact, page_keys, is_among};
+ghost use Rattle.trace_forms.specs.Forms.{are_listed, are_texts, is_text, text_at};
 ghost use Rattle.trace_forms.specs.Views.{fact_of, reading_of};
 
 use crate::kinds::into_text;
@@ -98,7 +99,9 @@ fn page_fact(members: Members) -> PageFact
 fn take_text(members: &mut Members, key: &str) -> Option<Text>
     requires { IsTrue (is_all_ascii key.now) }
     ensures taken { result ≡ text_at key.now (entries_of members.old.pairs) }
-    ensures kept { (other : List ℕ) → bytes_eq key.now other ≡ false → text_at other (entries_of members.new.pairs) ≡ text_at other (entries_of members.old.pairs) }
+    ensures kept { (other : List ℕ) → bytes_eq key.now other ≡ false
+        → text_at other (entries_of members.new.pairs)
+        ≡ text_at other (entries_of members.old.pairs) }
 {
     match members.place_of(key) {
         Some(at) => into_text(std::mem::replace(members.value_mut(at), Data::Undefined)),

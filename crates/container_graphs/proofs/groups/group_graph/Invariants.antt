@@ -4,4 +4,6 @@ use Rattle.export_model.specs.Graphs.{trigger_at}
 use Rattle.container_graphs.proofs.groups.group_graph.Given as goal
 
 abbrev pub invariant-loop-trigger : goal.invariant-loop-trigger
-invariant-loop-trigger l = l.graph ≡ map (λ trigger. filter_map trigger_at trigger.members) (take l.trigger-index l.trigger-items)
+invariant-loop-trigger l =
+    l.graph ≡ map (λ trigger. filter_map trigger_at trigger.members)
+    (take l.trigger-index l.trigger-items)

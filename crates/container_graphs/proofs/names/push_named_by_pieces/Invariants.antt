@@ -6,4 +6,5 @@ use Rattle.container_graphs.proofs.names.push_named_by_pieces.Given as goal
 
 abbrev pub invariant-loop-piece : goal.invariant-loop-piece
 invariant-loop-piece l =
-    l.found ++ filter_map variable_at (filter_map name_in (drop l.piece-index l.piece-items)) ≡ l.fn.found ++ filter_map variable_at (filter_map name_in l.pieces)
+    l.found ++ filter_map variable_at (filter_map name_in (drop l.piece-index l.piece-items))
+    ≡ l.fn.found ++ filter_map variable_at (filter_map name_in l.pieces)

@@ -5,4 +5,6 @@ use Rattle.export_model.specs.Names.{names_of_variable}
 use Rattle.container_graphs.proofs.variables.variable_graph.Given as goal
 
 abbrev pub invariant-loop-variable : goal.invariant-loop-variable
-invariant-loop-variable l = l.graph ≡ map (λ variable. filter_map variable_at (names_of_variable variable)) (take l.variable-index l.variable-items)
+invariant-loop-variable l =
+    l.graph ≡ map (λ variable. filter_map variable_at (names_of_variable variable))
+    (take l.variable-index l.variable-items)

@@ -18,6 +18,8 @@ decreases-item_params l = 4 * items_depth (items_view l.items.now.items) + 4
 
 abbrev pub invariant-item_params-loop-at : goal.invariant-item_params-loop-at
 invariant-item_params-loop-at l = record {
-  fault : item_params_fault l.at (items_view (drop l.at l.item-items)) ≡ item_params_fault 0 (items_view l.items.items);
-  value : l.made ++ item_params (items_view (drop l.at l.item-items)) ≡ item_params (items_view l.items.items);
+  fault : item_params_fault l.at (items_view (drop l.at l.item-items))
+      ≡ item_params_fault 0 (items_view l.items.items);
+  value : l.made ++ item_params (items_view (drop l.at l.item-items))
+      ≡ item_params (items_view l.items.items);
 }

@@ -3,4 +3,5 @@ use Rattle.export_numbers.specs.Conditions.{condition_of}
 use Rattle.export_numbers.proofs.conditions.push_conditions.Given as goal
 
 abbrev pub invariant-loop-condition : goal.invariant-loop-condition
-invariant-loop-condition l = l.made ≡ l.initial.made ++ map (condition_of l.names) (take l.condition-index l.written)
+invariant-loop-condition l =
+    l.made ≡ l.initial.made ++ map (condition_of l.names) (take l.condition-index l.written)

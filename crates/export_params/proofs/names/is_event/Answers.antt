@@ -7,5 +7,6 @@ use Rattle.export_params.proofs.names.is_event.Goals as goal
 pub returns : goal.returns
 returns c =
     c.eq.ensures
-    ∙ (λ i. bytes_eq (sym (encodes-chars c.args.name.now c.utf8.name) i) (sym (encodes-IsAscii (codes "_event") (IsAscii-from_test (codes "_event") refl)) i))
+    ∙ (λ i. bytes_eq (sym (encodes-chars c.args.name.now c.utf8.name) i)
+    (sym (encodes-IsAscii (codes "_event") (IsAscii-from_test (codes "_event") refl)) i))
     ∙ bytes_eq-encoded (chars c.args.name.now) (codes "_event")

@@ -8,7 +8,8 @@ use Rattle.export_params.proofs.pieces.pieces_of.Goals as goal
 pub loop-before-smaller : goal.loop-before-smaller
 loop-before-smaller c =
     let f = c.in-Some in
-    shorter (chars c.loop-before.left.now) (chars f.before.now, chars f.name.now, chars f.behind.now) (sym f.ensures)
+    shorter (chars c.loop-before.left.now)
+    (chars f.before.now, chars f.name.now, chars f.behind.now) (sym f.ensures)
 
 pub loop-before-preserved : goal.loop-before-preserved
 loop-before-preserved c =
@@ -18,9 +19,12 @@ loop-before-preserved c =
     record {
       text = search rules;
       whole =
-          one_more names (chars l.left.now) (chars f.before.now, chars f.name.now, chars f.behind.now) l.made c.push_literal.new.pieces c.push.new.self (sym f.ensures)
+          one_more names (chars l.left.now)
+          (chars f.before.now, chars f.name.now, chars f.behind.now) l.made
+          c.push_literal.new.pieces c.push.new.self (sym f.ensures)
           (c.in_ok-push_literal.ensures names)
-          (c.in_ok-push.ensures.ok ∙ ap (λ ref. c.push_literal.new.pieces ++ Name ref ∷ []) c.name_ref.ensures)
+          (c.in_ok-push.ensures.ok
+          ∙ ap (λ ref. c.push_literal.new.pieces ++ Name ref ∷ []) c.name_ref.ensures)
           ∙ l.invariant.whole;
     }
 
@@ -28,4 +32,5 @@ pub returns : goal.returns
 returns c =
     let l = c.loop-before in
     let names = c.args.names.now in
-    last_one names (chars l.left.now) l.made c.push_literal-2.new.pieces (sym c.in_default.ensures) (c.in_ok-push_literal-2.ensures names) ∙ l.invariant.whole
+    last_one names (chars l.left.now) l.made c.push_literal-2.new.pieces (sym c.in_default.ensures)
+    (c.in_ok-push_literal-2.ensures names) ∙ l.invariant.whole

@@ -17,6 +17,8 @@ loop-c-preserved c =
 pub returns : goal.returns
 returns c =
     let l = c.loop-c in
-    let end = YieldsList-end (YieldsList-from_chars c.args.text.now c.utf8.text cc) l.yielded _ l.yielded_by _ _ c.in-None.is c.next.ensures.steps in
+    let end =
+    YieldsList-end (YieldsList-from_chars c.args.text.now c.utf8.text cc) l.yielded _
+    l.yielded_by _ _ c.in-None.is c.next.ensures.steps in
     let all : l.yielded ≡ chars c.args.text.now = sym (map-id l.yielded) ∙ end.0 in
     l.invariant ∙ ap (λ cs. min (read_on 0 cs) 2147479000) all

@@ -8,5 +8,6 @@ use Rattle.export_references.proofs.numbers.is_decimal.Goals as goal
 
 pub returns : goal.returns
 returns c =
-    all_from_yields_List is_ascii_digit _ _ c.all.result c.all.ensures.ran (YieldsList-from_chars c.args.text.now c.utf8.text cc) (λ x b q k. search (rules, tests))
+    all_from_yields_List is_ascii_digit _ _ c.all.result c.all.ensures.ran
+    (YieldsList-from_chars c.args.text.now c.utf8.text cc) (λ x b q k. search (rules, tests))
     ∙ all_digits (chars c.args.text.now)

@@ -4,4 +4,5 @@ use Rattle.export_references.specs.Priorities.{tag_fault}
 use Rattle.export_references.proofs.priorities.priority_text.Given as goal
 
 abbrev pub invariant-loop-at : goal.invariant-loop-at
-invariant-loop-at l = items_fault tag_fault l.at (drop l.at l.tag-items) ≡ items_fault tag_fault 0 l.written.tags
+invariant-loop-at l =
+    items_fault tag_fault l.at (drop l.at l.tag-items) ≡ items_fault tag_fault 0 l.written.tags

@@ -4,4 +4,6 @@ use Rattle.export_references.specs.UnknownTypes.{type_fault}
 use Rattle.export_references.proofs.templates.in_variables.Given as goal
 
 abbrev pub invariant-loop-at : goal.invariant-loop-at
-invariant-loop-at l = items_fault (λ variable. type_fault l.types variable.kind) l.at (drop l.at l.variable-items) ≡ items_fault (λ variable. type_fault l.types variable.kind) 0 l.variables
+invariant-loop-at l =
+    items_fault (λ variable. type_fault l.types variable.kind) l.at (drop l.at l.variable-items)
+    ≡ items_fault (λ variable. type_fault l.types variable.kind) 0 l.variables

@@ -9,9 +9,12 @@ pub returns : goal.returns
 returns c =
     let written = c.args.written.now in
     let fault : TypeLists → Option (List ℕ) =
-    λ types. list_fault (codes "tag") (λ tag. type_fault types tag.kind) written.tags then list_fault (codes "variable") (λ variable. type_fault types variable.kind) written.variables in
+    λ types. list_fault (codes "tag") (λ tag. type_fault types tag.kind) written.tags
+    then list_fault (codes "variable") (λ variable. type_fault types variable.kind)
+    written.variables in
     let told : c.in_ok-variable.variable ≡ fault c.in_ok-types.types = search rules in
     let own : c.in_ok-types.types.own ≡ map own_type written.templates = search rules in
     let gallery : c.in_ok-types.types.gallery ≡ map gallery_type written.templates = search rules in
-    let types_are : c.in_ok-types.types ≡ types_of written.templates = λ i. record { own = own i; gallery = gallery i } in
+    let types_are : c.in_ok-types.types ≡ types_of written.templates =
+    λ i. record { own = own i; gallery = gallery i } in
     told ∙ ap fault types_are

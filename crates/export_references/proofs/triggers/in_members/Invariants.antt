@@ -5,4 +5,6 @@ use Rattle.export_fields.specs.declared.params.WrittenParam.{out-WrittenParam}
 use Rattle.export_references.proofs.triggers.in_members.Given as goal
 
 abbrev pub invariant-loop-at : goal.invariant-loop-at
-invariant-loop-at l = items_fault (member_fault l.ids) l.at (drop l.at l.member-items) ≡ items_fault (member_fault l.ids) 0 (out-WrittenParam l.param).list
+invariant-loop-at l =
+    items_fault (member_fault l.ids) l.at (drop l.at l.member-items)
+    ≡ items_fault (member_fault l.ids) 0 (out-WrittenParam l.param).list

@@ -6,12 +6,14 @@ use Rattle.reference_cycles.proofs.laws.the_closure_has_the_first_cycle.Goals as
 
 pub returns-clause-first : goal.returns-clause-first
 returns-clause-first c graph place = (
-  (λ is. let answer : Answers graph (Some place) = subst (Answers graph) is (first_cycle_answers graph) in answer),
+  (λ is. let answer : Answers graph (Some place) =
+      subst (Answers graph) is (first_cycle_answers graph) in answer),
   one_answer graph (first_cycle graph) (Some place) (first_cycle_answers graph),
 )
 
 pub returns-clause-none : goal.returns-clause-none
 returns-clause-none c graph = (
-  (λ is. let answer : Answers graph None = subst (Answers graph) is (first_cycle_answers graph) in answer),
+  (λ is. let answer : Answers graph None = subst (Answers graph) is (first_cycle_answers graph) in
+      answer),
   one_answer graph (first_cycle graph) None (first_cycle_answers graph),
 )

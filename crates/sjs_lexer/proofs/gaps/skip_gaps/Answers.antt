@@ -8,7 +8,9 @@ pub loop-breaks-init : goal.loop-breaks-init
 loop-breaks-init c = record { skips = skips_none; utf8 = c.utf8.text }
 
 pub loop-breaks-smaller-then-broken : goal.loop-breaks-smaller-then-broken
-loop-breaks-smaller-then-broken c = gap_shorter (chars c.loop-breaks.left.now) (c.in-Some.breaks, chars c.in-Some.rest.now) (sym c.in-Some.ensures)
+loop-breaks-smaller-then-broken c =
+    gap_shorter (chars c.loop-breaks.left.now) (c.in-Some.breaks, chars c.in-Some.rest.now)
+    (sym c.in-Some.ensures)
 
 pub loop-breaks-preserved-then-broken : goal.loop-breaks-preserved-then-broken
 loop-breaks-preserved-then-broken c =
@@ -16,12 +18,16 @@ loop-breaks-preserved-then-broken c =
     record {
       skips =
           subst P (ap (λ b. b || c.in-Some.breaks) c.if-broken.true ∙ sym c.if-broken.true)
-          (skips_push (chars c.args.text.now) (chars c.loop-breaks.left.now) c.loop-breaks.broken (c.in-Some.breaks, chars c.in-Some.rest.now) c.loop-breaks.invariant.skips (sym c.in-Some.ensures));
+          (skips_push (chars c.args.text.now) (chars c.loop-breaks.left.now) c.loop-breaks.broken
+          (c.in-Some.breaks, chars c.in-Some.rest.now) c.loop-breaks.invariant.skips
+          (sym c.in-Some.ensures));
       utf8 = search rules;
     }
 
 pub loop-breaks-smaller : goal.loop-breaks-smaller
-loop-breaks-smaller c = gap_shorter (chars c.loop-breaks.left.now) (c.in-Some.breaks, chars c.in-Some.rest.now) (sym c.in-Some.ensures)
+loop-breaks-smaller c =
+    gap_shorter (chars c.loop-breaks.left.now) (c.in-Some.breaks, chars c.in-Some.rest.now)
+    (sym c.in-Some.ensures)
 
 pub loop-breaks-preserved : goal.loop-breaks-preserved
 loop-breaks-preserved c =
@@ -29,6 +35,8 @@ loop-breaks-preserved c =
     record {
       skips =
           subst P (ap (λ b. b || c.in-Some.breaks) c.if-broken.false)
-          (skips_push (chars c.args.text.now) (chars c.loop-breaks.left.now) c.loop-breaks.broken (c.in-Some.breaks, chars c.in-Some.rest.now) c.loop-breaks.invariant.skips (sym c.in-Some.ensures));
+          (skips_push (chars c.args.text.now) (chars c.loop-breaks.left.now) c.loop-breaks.broken
+          (c.in-Some.breaks, chars c.in-Some.rest.now) c.loop-breaks.invariant.skips
+          (sym c.in-Some.ensures));
       utf8 = search rules;
     }

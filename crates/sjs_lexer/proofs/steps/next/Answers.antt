@@ -3,4 +3,7 @@ use Rattle.std.proofs.lemmas.Str.{chars_past_char}
 use Rattle.sjs_lexer.proofs.steps.next.Goals as goal
 
 pub returns : goal.returns
-returns c = rw c.as_str.ensures (chars_past_char _ _ _ c.utf8.left (sym c.chars-chars.ensures.rest ∙ c.in_ok-first.ensures.steps.0))
+returns c =
+    rw c.as_str.ensures
+    (chars_past_char _ _ _ c.utf8.left
+    (sym c.chars-chars.ensures.rest ∙ c.in_ok-first.ensures.steps.0))

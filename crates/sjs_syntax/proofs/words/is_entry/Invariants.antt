@@ -4,4 +4,5 @@ use Rattle.sjs_syntax.specs.Words.{is_entry}
 use Rattle.sjs_syntax.proofs.words.is_entry.Given as goal
 
 abbrev pub invariant-loop-entry : goal.invariant-loop-entry
-invariant-loop-entry l = is_entry (entries (drop l.entry-index l.table)) l.text ≡ is_entry (entries l.table) l.text
+invariant-loop-entry l =
+    is_entry (entries (drop l.entry-index l.table)) l.text ≡ is_entry (entries l.table) l.text

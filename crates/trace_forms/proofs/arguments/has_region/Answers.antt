@@ -3,7 +3,8 @@ use Rattle.std.specs.Prelude.{codes, option_map}
 use Rattle.std.specs.Option.{is_some, option_map_or}
 use Rattle.gtm_base.proofs.Characters.{chars-ascii}
 use Rattle.gtm_data.specs.Paths.{member_of}
-use Rattle.gtm_data.specs.Tree.{Tree, tree_of, undefined, null, bool, whole, text, list, object, foreign, callback}
+use Rattle.gtm_data.specs.Tree.{Tree, tree_of, undefined, null, bool, whole, text, list, object}
+use Rattle.gtm_data.specs.Tree.{foreign, callback}
 use Rattle.trace_forms.specs.Forms.{has_region}
 use Rattle.trace_forms.proofs.arguments.has_region.Goals as goal
 

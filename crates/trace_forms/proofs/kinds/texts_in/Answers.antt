@@ -4,7 +4,8 @@ use Rattle.trace_forms.proofs.kinds.texts_in.Goals as goal
 
 pub loop-item-preserved : goal.loop-item-preserved
 loop-item-preserved c =
-    texts_in-text _ _ _ _ _ _ c.in-Some.ensures (sym c.in-Some-into_text.ensures) c.in_ok-push-in-Some-into_text.ensures.ok
+    texts_in-text _ _ _ _ _ _ c.in-Some.ensures (sym c.in-Some-into_text.ensures)
+    c.in_ok-push-in-Some-into_text.ensures.ok
     ∙ c.loop-item.invariant
 
 pub returns-in-None : goal.returns-in-None

@@ -5,7 +5,9 @@ use Rattle.trace_forms.specs.Forms.{texts_in}
 use Rattle.trace_forms.proofs.kinds.texts_in.Given as goal
 
 abbrev pub invariant-loop-item : goal.invariant-loop-item
-invariant-loop-item l = option_map (λ front. front ++ reverse l.texts) (texts_in (trees_of l.left)) ≡ texts_in (trees_of l.initial.left)
+invariant-loop-item l =
+    option_map (λ front. front ++ reverse l.texts) (texts_in (trees_of l.left))
+    ≡ texts_in (trees_of l.initial.left)
 
 abbrev pub decreases-loop-item : goal.decreases-loop-item
 decreases-loop-item l = length l.left

@@ -10,4 +10,5 @@ texts_are [] = refl
 texts_are (first ∷ values) = ap (option_map (λ more. first ∷ more)) (texts_are values)
 
 pub returns-clause-cookie : goal.returns-clause-cookie
-returns-clause-cookie c name values = ap (λ found. step_or_kind (option_map (λ vs. fact (cookie name vs)) found)) (texts_are values)
+returns-clause-cookie c name values =
+    ap (λ found. step_or_kind (option_map (λ vs. fact (cookie name vs)) found)) (texts_are values)

@@ -9,7 +9,8 @@ pub returns-in-Some-clause-taken : goal.returns-in-Some-clause-taken
 returns-in-Some-clause-taken c =
     let key = c.args.key.now in
     let place = rw (chars-ascii key c.requires) at c.in-Some.ensures.place in
-    let there = is_place key c.value_mut.result.now c.args.members.now.pairs c.in-Some.at (sym place) in
+    let there =
+    is_place key c.value_mut.result.now c.args.members.now.pairs c.in-Some.at (sym place) in
     c.into_text.ensures
     ∙ ap (λ value. text_in (tree_of value)) (c.replace.ensures.value ∙ c.value_mut.ensures.value)
     ∙ ap (option_and_then text_in) (sym there.found)

@@ -6,4 +6,13 @@ pub returns-in_err-turn : goal.returns-in_err-turn
 unfolding tag_fault tag_of
 returns-in_err-turn c =
     ends_as _ _ _ _ c.from_residual-in_err-turn.ensures.1
-    (rw (c.in_ok-object.ensures.0, c.in_ok-id.ensures.0, c.in_ok-name.ensures.0, c.in_ok-kind.ensures.0, c.in_ok-params.ensures.0, c.in_ok-firing.ensures.0, c.in_ok-blocking.ensures.0, c.in_ok-priority.ensures.0) c.in_err-turn.ensures)
+    (rw (
+      c.in_ok-object.ensures.0,
+      c.in_ok-id.ensures.0,
+      c.in_ok-name.ensures.0,
+      c.in_ok-kind.ensures.0,
+      c.in_ok-params.ensures.0,
+      c.in_ok-firing.ensures.0,
+      c.in_ok-blocking.ensures.0,
+      c.in_ok-priority.ensures.0,
+    ) c.in_err-turn.ensures)

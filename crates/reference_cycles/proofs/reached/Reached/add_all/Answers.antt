@@ -12,10 +12,15 @@ loop-place-preserved c =
     let next = get_or places l.place-index 0 in
     let old = c.args.self.now.places.items in
     let new = c.add.new.self.places.items in
-    let step : Grows count (next ∷ []) l.self.places.items new = subst (λ room. Grows room (next ∷ []) l.self.places.items new) l.invariant.room c.in_ok-add.ensures.grows in
+    let step : Grows count (next ∷ []) l.self.places.items new =
+    subst (λ room. Grows room (next ∷ []) l.self.places.items new) l.invariant.room
+    c.in_ok-add.ensures.grows in
     record {
       marked = c.in_ok-add.ensures.marked;
       room = c.in_ok-add.ensures.room ∙ l.invariant.room;
-      grows = subst (λ wanted. Grows count wanted old new) (sym (take_more places l.place-index 0 c.loop-place-test.true))
-          (grows_onwards count (take l.place-index places) (next ∷ []) old l.self.places.items new l.invariant.grows step);
+      grows =
+          subst (λ wanted. Grows count wanted old new)
+          (sym (take_more places l.place-index 0 c.loop-place-test.true))
+          (grows_onwards count (take l.place-index places) (next ∷ []) old l.self.places.items new
+          l.invariant.grows step);
     }
