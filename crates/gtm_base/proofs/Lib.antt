@@ -4,4 +4,6 @@ pub mod Lookups
 pub mod OpenFile
 pub mod Pairs
 pub mod Pieces
+pub mod ReadPieces
 pub mod SameKeyed
+pub mod WrittenPieces

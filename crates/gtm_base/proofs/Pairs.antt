@@ -1,5 +1,7 @@
 -- Pairs of a key and a value: one that is written, one that is added, one that is looked for.
-use Rattle.std.proofs.Common.{◌≡◌, ℕ, zero, suc, ◌<◌, ◌+◌, List, [], ◌∷◌, ◌++◌, length, get_or, slice_set, drop, Bool, true, false, not, ◌&&◌, ◌||◌, true≢false, refl, sym, ap, ◌∙◌, arith, drop-cons}
+use Rattle.std.proofs.Common.{◌≡◌, ℕ, zero, suc, ◌<◌, ◌+◌, List, [], ◌∷◌, ◌++◌, length, get_or}
+use Rattle.std.proofs.Common.{slice_set, drop, Bool, true, false, not, ◌&&◌, ◌||◌, true≢false, refl}
+use Rattle.std.proofs.Common.{sym, ap, ◌∙◌, arith, drop-cons}
 use Rattle.std.specs.Prelude.{Some, option_map, option_map}
 use Rattle.std.specs.Str.{bytes_eq}
 use Rattle.std.proofs.lemmas.Slice.Eq.{bytes_eq-Decides}
@@ -22,21 +24,29 @@ bytes_eq-sym some other =
 
 module _ {A : Type 0} where
   -- a write of the pair at a place that leaves its key
-  pub set_is : (pairs : List (List ℕ × A)) (at : ℕ) (pair : List ℕ × A) (value : A) → at < length pairs → pair ≡ get_or pairs at pair → slice_set pairs at (pair.0, value) ≡ with_value pairs at value
+  pub set_is : (pairs : List (List ℕ × A)) (at : ℕ) (pair : List ℕ × A) (value : A)
+      → at < length pairs → pair ≡ get_or pairs at pair
+      → slice_set pairs at (pair.0, value) ≡ with_value pairs at value
   set_is [] at pair value within is = absurd (omega arith)
   set_is (first ∷ pairs) zero pair value within is = ap (λ p. (p.0, value) ∷ pairs) is
-  set_is (first ∷ pairs) (suc at) pair value within is = ap (λ rest. first ∷ rest) (set_is pairs at pair value (omega arith) is)
+  set_is (first ∷ pairs) (suc at) pair value within is =
+      ap (λ rest. first ∷ rest) (set_is pairs at pair value (omega arith) is)
 
-  pub value_is : (pairs : List (List ℕ × A)) (at : ℕ) (pair : List ℕ × A) → at < length pairs → pair ≡ get_or pairs at pair → pair.1 ≡ value_at pairs at pair.1
+  pub value_is : (pairs : List (List ℕ × A)) (at : ℕ) (pair : List ℕ × A) → at < length pairs
+      → pair ≡ get_or pairs at pair → pair.1 ≡ value_at pairs at pair.1
   value_is [] at pair within is = absurd (omega arith)
   value_is (first ∷ pairs) zero pair within is = ap (λ p. p.1) is
   value_is (first ∷ pairs) (suc at) pair within is = value_is pairs at pair (omega arith) is
 
-  has_key-push : (key new : List ℕ) (value : A) (pairs : List (List ℕ × A)) → bytes_eq new key ≡ false → has_key key (pairs ++ (new, value) ∷ []) ≡ has_key key pairs
+  has_key-push : (key new : List ℕ) (value : A) (pairs : List (List ℕ × A))
+      → bytes_eq new key ≡ false → has_key key (pairs ++ (new, value) ∷ []) ≡ has_key key pairs
   has_key-push key new value [] other = ap (λ b. b || false) other
-  has_key-push key new value (pair ∷ pairs) other = ap (λ b. bytes_eq pair.0 key || b) (has_key-push key new value pairs other)
+  has_key-push key new value (pair ∷ pairs) other =
+      ap (λ b. bytes_eq pair.0 key || b) (has_key-push key new value pairs other)
 
-  pub distinct_keys-push : (new : List ℕ) (value : A) (pairs : List (List ℕ × A)) → has_key new pairs ≡ false → distinct_keys pairs ≡ true → distinct_keys (pairs ++ (new, value) ∷ []) ≡ true
+  pub distinct_keys-push : (new : List ℕ) (value : A) (pairs : List (List ℕ × A))
+      → has_key new pairs ≡ false → distinct_keys pairs ≡ true
+      → distinct_keys (pairs ++ (new, value) ∷ []) ≡ true
   distinct_keys-push new value [] absent distinct = refl
   distinct_keys-push new value (pair ∷ pairs) absent distinct =
       let apart = or_false (bytes_eq pair.0 new) (has_key new pairs) absent in
@@ -46,6 +56,8 @@ module _ {A : Type 0} where
       ∙ (λ i. both.0 i && distinct_keys-push new value pairs apart.1 both.1 i)
 
   -- after the first pairs without the key, its place among the rest counts on
-  pub place_on : (key : List ℕ) (pairs : List (List ℕ × A)) (at : ℕ) (pair : List ℕ × A) → at < length pairs → pair ≡ get_or pairs at pair → bytes_eq pair.0 key ≡ true
+  pub place_on : (key : List ℕ) (pairs : List (List ℕ × A)) (at : ℕ) (pair : List ℕ × A)
+      → at < length pairs → pair ≡ get_or pairs at pair → bytes_eq pair.0 key ≡ true
       → option_map (λ p. p + at) (place_of key (drop at pairs)) ≡ Some at
-  place_on key pairs at pair within is test = rw (drop-cons pairs at pair, ← is, test) (ap Some (omega arith))
+  place_on key pairs at pair within is test =
+      rw (drop-cons pairs at pair, ← is, test) (ap Some (omega arith))

@@ -1,5 +1,6 @@
 -- Pairs of a key and a value.
-use Rattle.std.specs.Prelude.{ℕ, zero, suc, List, [], ◌∷◌, Bool, true, false, not, ◌&&◌, ◌||◌, Option, Some, None, option_map, if◌then◌else◌}
+use Rattle.std.specs.Prelude.{ℕ, zero, suc, List, [], ◌∷◌, Bool, true, false, not, ◌&&◌, ◌||◌}
+use Rattle.std.specs.Prelude.{Option, Some, None, option_map, if◌then◌else◌}
 use Rattle.std.specs.Str.{bytes_eq}
 
 -- whether some pair has the key
@@ -20,7 +21,8 @@ value_of key (pair ∷ pairs) = if bytes_eq pair.0 key then Some pair.1 else val
 -- the place of the first pair with the key
 abbrev pub place_of : {A : Type 0} → List ℕ → List (List ℕ × A) → Option ℕ
 place_of key [] = None
-place_of key (pair ∷ pairs) = if bytes_eq pair.0 key then Some 0 else option_map suc (place_of key pairs)
+place_of key (pair ∷ pairs) =
+    if bytes_eq pair.0 key then Some 0 else option_map suc (place_of key pairs)
 
 -- the pairs with another value at a place
 abbrev pub with_value : {A : Type 0} → List (List ℕ × A) → ℕ → A → List (List ℕ × A)

@@ -8,20 +8,29 @@ use Rattle.gtm_base.specs.Keys.{has_key, distinct_keys, with_value}
 abbrev pub on_value : {X Y : Type 0} → (X → Y) → List ℕ × X → List ℕ × Y
 on_value change pair = (pair.0, change pair.1)
 
-pub has_key-map : {X Y : Type 0} (change : X → Y) (key : List ℕ) (pairs : List (List ℕ × X)) → has_key key (map (on_value change) pairs) ≡ has_key key pairs
+pub has_key-map : {X Y : Type 0} (change : X → Y) (key : List ℕ) (pairs : List (List ℕ × X))
+    → has_key key (map (on_value change) pairs) ≡ has_key key pairs
 has_key-map change key [] = refl
-has_key-map change key (pair ∷ pairs) = ap (λ rest. bytes_eq pair.0 key || rest) (has_key-map change key pairs)
+has_key-map change key (pair ∷ pairs) =
+    ap (λ rest. bytes_eq pair.0 key || rest) (has_key-map change key pairs)
 
-pub distinct_keys-map : {X Y : Type 0} (change : X → Y) (pairs : List (List ℕ × X)) → distinct_keys (map (on_value change) pairs) ≡ distinct_keys pairs
+pub distinct_keys-map : {X Y : Type 0} (change : X → Y) (pairs : List (List ℕ × X))
+    → distinct_keys (map (on_value change) pairs) ≡ distinct_keys pairs
 distinct_keys-map change [] = refl
-distinct_keys-map change (pair ∷ pairs) = λ i. not (has_key-map change pair.0 pairs i) && distinct_keys-map change pairs i
+distinct_keys-map change (pair ∷ pairs) =
+    λ i. not (has_key-map change pair.0 pairs i) && distinct_keys-map change pairs i
 
-pub has_key-with_value : {A : Type 0} (key : List ℕ) (pairs : List (List ℕ × A)) (at : ℕ) (value : A) → has_key key (with_value pairs at value) ≡ has_key key pairs
+pub has_key-with_value : {A : Type 0} (key : List ℕ) (pairs : List (List ℕ × A)) (at : ℕ)
+    (value : A) → has_key key (with_value pairs at value) ≡ has_key key pairs
 has_key-with_value key [] at value = refl
 has_key-with_value key (pair ∷ pairs) zero value = refl
-has_key-with_value key (pair ∷ pairs) (suc at) value = ap (λ rest. bytes_eq pair.0 key || rest) (has_key-with_value key pairs at value)
+has_key-with_value key (pair ∷ pairs) (suc at) value =
+    ap (λ rest. bytes_eq pair.0 key || rest) (has_key-with_value key pairs at value)
 
-pub distinct_keys-with_value : {A : Type 0} (pairs : List (List ℕ × A)) (at : ℕ) (value : A) → distinct_keys (with_value pairs at value) ≡ distinct_keys pairs
+pub distinct_keys-with_value : {A : Type 0} (pairs : List (List ℕ × A)) (at : ℕ) (value : A)
+    → distinct_keys (with_value pairs at value) ≡ distinct_keys pairs
 distinct_keys-with_value [] at value = refl
 distinct_keys-with_value (pair ∷ pairs) zero value = refl
-distinct_keys-with_value (pair ∷ pairs) (suc at) value = λ i. not (has_key-with_value pair.0 pairs at value i) && distinct_keys-with_value pairs at value i
+distinct_keys-with_value (pair ∷ pairs) (suc at) value =
+    λ i. not (has_key-with_value pair.0 pairs at value i)
+    && distinct_keys-with_value pairs at value i

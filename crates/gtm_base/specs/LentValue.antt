@@ -10,7 +10,13 @@ use Rattle.gtm_base.specs.contracts.keyed.Keyed.{the_row}
 
 -- the same pairs with another value at a place
 abbrev pub keyed_with : {X : Type 0} → Keyed X → ℕ → X → Keyed X
-keyed_with keyed at value = record { pairs = with_value keyed.pairs at value; distinct = distinct_keys-with_value keyed.pairs at value ∙ keyed.distinct }
+keyed_with keyed at value =
+    record {
+      pairs =
+          with_value keyed.pairs at value;
+      distinct =
+          distinct_keys-with_value keyed.pairs at value ∙ keyed.distinct;
+    }
 
 -- the pairs end with the last value behind the loan at that place
 abbrev pub LendsValue : (T : RattleType) → MutBor (Keyed T.Denot) → ℕ → MutBor T.Denot → Fml

@@ -1,6 +1,7 @@
-ghost use Rattle.std.specs.Prelude.{◌≡◌, ◌<◌, ◌≤◌, [], None, Some, false, IsTrue, IfOk, length};
+ghost use Rattle.std.specs.Prelude.{◌≡◌, ◌≤◌, ◌<◌, [], None, Some, false, IsTrue, is_err, IfOk};
+ghost use Rattle.std.specs.Prelude.{length};
 ghost use Rattle.std.specs.Io.KnownBytes.{ReadConsumes};
-ghost use Rattle.gtm_base.specs.Causes.{IsCounted};
+ghost use Rattle.gtm_base.specs.Causes.{Counts};
 
 use crate::handed::keep_name;
 use crate::{FileFailed, Files, Texts};
@@ -9,7 +10,8 @@ use std::io::Read;
 use std::marker::Model;
 use std::rt;
 
-/// Files on the disk. As `Files` they tell nothing of what a file holds. Beyond that, what `read` answers is what the runtime's open file gave, where the type of that file tells it.
+/// Files on the disk. As `Files` they tell nothing of what a file holds. Beyond that, what `read`
+/// answers is what the runtime's open file gave, where the type of that file tells it.
 #[derive(Drop)]
 pub struct DiskFiles<R: rt::Files> {
     alloc: Global,
@@ -25,13 +27,19 @@ impl<R: rt::Files> Model for DiskFiles<R> {
 
     ghost Value = { DiskState };
 
-    ghost view = { λ files. record { is_open = is_some files.file; to_read = option_and_then R.File.remaining files.file; names = files.names; faults = files.faults } };
+    ghost view = { λ files. record {
+      is_open = is_some files.file;
+      to_read = option_and_then R.File.remaining files.file;
+      names = files.names;
+      faults = files.faults;
+    } };
 }
 
 impl<R: rt::Files> DiskFiles<R> {
     /// The files that the runtime reaches, of which none is open. Takes no memory.
     pub fn new(alloc: Global, rt: R) -> DiskFiles<R>
-        ensures { result ≡ record { is_open = false; to_read = None; names = Some []; faults = 0 } }
+        ensures { result
+            ≡ record { is_open = false; to_read = None; names = Some []; faults = 0 } }
     {
         DiskFiles {
             alloc,
@@ -44,17 +52,9 @@ impl<R: rt::Files> DiskFiles<R> {
 }
 
 impl<R: rt::Files> Files for DiskFiles<R> {
-    ghost held = { λ _. None };
+    ghost use Rattle.gtm_base.specs.Disk.{disk_files_state};
 
-    ghost is_open = { λ files. files.is_open };
-
-    ghost open_name = { λ _. None };
-
-    ghost left = { λ _. None };
-
-    ghost names = { λ files. files.names };
-
-    ghost faults = { λ files. files.faults };
+    ghost state = { disk_files_state };
 
     fn open(&mut self, name: &str) -> Result<(), FileFailed> {
         keep_name(self.alloc, &mut self.names, name);
@@ -74,7 +74,7 @@ impl<R: rt::Files> Files for DiskFiles<R> {
         ensures names { self.new.names ≡ self.old.names }
         ensures count { IfOk result (λ count. count ≤ length piece.new) }
         ensures given { ReadConsumes self.old.to_read self.new.to_read result piece.new }
-        ensures counted { IsCounted self.old.faults self.new.faults result }
+        ensures counted { Counts (is_err result) self.old.faults self.new.faults }
     {
         let Some(file) = &mut self.file else {
             unreachable!()

@@ -1,4 +1,5 @@
-ghost use Rattle.std.specs.Prelude.{◌≡◌, ◌<◌, [], ◌∷◌, ◌++◌, length, false, IfSome, IfNone, OnOk, OnErr};
+ghost use Rattle.std.specs.Prelude.{◌≡◌, ◌<◌, [], ◌∷◌, ◌++◌, length, false, IfSome, IfNone, OnOk};
+ghost use Rattle.std.specs.Prelude.{OnErr};
 ghost use Rattle.std.specs.Option.{option_copied};
 ghost use Rattle.std.specs.Str.{chars};
 ghost use Rattle.std.specs.Prelude.{IsTrue};
@@ -83,7 +84,8 @@ impl<T> Keyed<T> {
 }
 
 impl<T: Drop> Keyed<T> {
-    /// Puts a pair behind the last, with a key that none has. Where memory is wanting, the pair is dropped and the others stay as they were.
+    /// Puts a pair behind the last, with a key that none has. Where memory is wanting, the pair is
+    /// dropped and the others stay as they were.
     pub fn push(&mut self, key: Text, value: T) -> Result<(), OutOfMemory>
         requires { has_key key self.old.pairs ≡ false }
         ensures ok { OnOk result (self.new.pairs ≡ self.old.pairs ++ (key, value) ∷ []) }

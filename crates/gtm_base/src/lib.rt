@@ -1,9 +1,10 @@
 //! What every crate stands on: texts, lists and the outside.
 //!
-//! A `Text` and a `ListOf` are in contracts the list of their characters and items, and no two pairs of a `Keyed` have the
-//! same key. `Files` and `Sink` say what a call read, took and opened, where this is told, and that a call fails only with a
-//! rise of its count; `put` and `read_whole` hand that on for a whole piece and a whole file. The forms in memory tell all,
-//! and the real forms of a disk and of the system's streams tell nothing of content.
+//! A `Text` and a `ListOf` are in contracts the list of their characters and items, and no two
+//! pairs of a `Keyed` have the same key. `Files` and `Sink` say what a call read, took and opened,
+//! where this is told, and that a call fails only with a rise of its count; `put` and `read_whole`
+//! hand that on for a whole piece and a whole file. The forms in memory tell all, and the real
+//! forms of a disk and of the system's streams tell nothing of content.
 //!
 //! A law, `keys_lead_to_their_pairs`, says of whole lists of pairs what the lookups by key mean.
 #![tactic(auto)]

@@ -1,4 +1,6 @@
-ghost use Rattle.std.specs.Prelude.{◌≡◌, ◌≤◌, ◌<◌, ◌↔◌, [], ◌∷◌, ◌++◌, length, slice_get, slice_index_or, slice_set, insert, remove, reverse, IsTrue, MatchOption, IfOk, OnOk, OnErr};
+ghost use Rattle.std.specs.Prelude.{◌≡◌, ◌≤◌, ◌<◌, ◌↔◌, [], ◌∷◌, ◌++◌, length, slice_get};
+ghost use Rattle.std.specs.Prelude.{slice_index_or, slice_set, insert, remove, reverse, IsTrue};
+ghost use Rattle.std.specs.Prelude.{MatchOption, IfOk, OnOk, OnErr};
 ghost use Rattle.std.specs.Option.{option_copied};
 
 use crate::OutOfMemory;
@@ -62,7 +64,8 @@ impl<T> ListOf<T> {
 
     /// Takes out the last item, or answers `None` where there is none.
     pub fn pop(&mut self) -> Option<T>
-        ensures { MatchOption result ((self.old ≡ []) × (self.new ≡ [])) (λ last. self.old ≡ self.new ++ last ∷ []) }
+        ensures { MatchOption result ((self.old ≡ []) × (self.new ≡ []))
+            (λ last. self.old ≡ self.new ++ last ∷ []) }
     {
         self.inner.pop()
     }
@@ -82,7 +85,8 @@ impl<T> ListOf<T> {
     /// The item at a place, to be changed there.
     pub fn get_mut(&mut self, at: usize) -> &mut T
         requires { at < length self.old }
-        ensures* writes_back { sem 𝓛 (Lends (the_row T.row) T.row self.entry result (slice_set self.old at)) }
+        ensures* writes_back { sem 𝓛
+            (Lends (the_row T.row) T.row self.entry result (slice_set self.old at)) }
         ensures value { result.now ≡ slice_index_or self.old at result.now }
     {
         &mut self.inner[at]
@@ -90,7 +94,8 @@ impl<T> ListOf<T> {
 }
 
 impl<T: Drop> ListOf<T> {
-    /// Puts an item behind the last. Where memory is wanting, the item is dropped and the list stays as it was.
+    /// Puts an item behind the last. Where memory is wanting, the item is dropped and the list
+    /// stays as it was.
     pub fn push(&mut self, item: T) -> Result<(), OutOfMemory>
         ensures ok { OnOk result (self.new ≡ self.old ++ item ∷ []) }
         ensures err { OnErr result (self.new ≡ self.old) }
@@ -99,7 +104,8 @@ impl<T: Drop> ListOf<T> {
         Ok(())
     }
 
-    /// Puts an item before the one at a place, or behind the last. Where memory is wanting, the item is dropped and the list stays as it was.
+    /// Puts an item before the one at a place, or behind the last. Where memory is wanting, the
+    /// item is dropped and the list stays as it was.
     pub fn insert(&mut self, at: usize, item: T) -> Result<(), OutOfMemory>
         requires { at ≤ length self.old }
         ensures ok { OnOk result (self.new ≡ insert self.old at item) }

@@ -1,9 +1,12 @@
-ghost use Rattle.std.specs.Prelude.{◌≡◌, ◌≤◌, ◌<◌, ◌^◌, [], ◌++◌, ◌∷◌, length, take, drop, min, false, Some, None, IsTrue, IsSome, IsOk, IsErr, IfOk, OnOk, OnErr};
+ghost use Rattle.std.specs.Prelude.{◌≡◌, ◌≤◌, ◌<◌, ◌^◌, [], ◌++◌, ◌∷◌, length, take, drop, min};
+ghost use Rattle.std.specs.Prelude.{false, Some, None, IsTrue, IsSome, is_err, IsOk, IsErr, IfOk};
+ghost use Rattle.std.specs.Prelude.{OnOk, OnErr};
 ghost use Rattle.std.specs.Str.{chars};
 ghost use Rattle.std.specs.Prelude.{◌+◌, option_map, slice_get};
-ghost use Rattle.gtm_base.specs.Causes.{IsCounted, one_more};
+ghost use Rattle.gtm_base.specs.Causes.{Counts, one_more};
 ghost use Rattle.gtm_base.specs.Keys.{value_of, place_of};
-ghost use Rattle.gtm_base.specs.Memory.{with_file, name_in, left_in, is_among, left_count, faults_after_open};
+ghost use Rattle.gtm_base.specs.Memory.{with_file, name_in, left_in, is_among, left_count};
+ghost use Rattle.gtm_base.specs.Memory.{faults_after_open};
 ghost use Rattle.gtm_base.specs.Outside.{AddsName, followed_by};
 
 use crate::handed::keep_name;
@@ -40,7 +43,15 @@ impl Model for MemFiles {
 impl MemFiles {
     /// No files, and no call that is to fail. Takes no memory.
     pub fn new(alloc: Global) -> MemFiles
-        ensures { result ≡ record { held = []; failing = []; calls = 0; faults = 0; file = None; done = 0; names = Some [] } }
+        ensures { result ≡ record {
+          held = [];
+          failing = [];
+          calls = 0;
+          faults = 0;
+          file = None;
+          done = 0;
+          names = Some [];
+        } }
     {
         MemFiles {
             alloc,
@@ -54,9 +65,11 @@ impl MemFiles {
         }
     }
 
-    /// Holds these bytes under this name, in place of what it held there. Where memory is wanting, all stays as it was.
+    /// Holds these bytes under this name, in place of what it held there. Where memory is wanting,
+    /// all stays as it was.
     pub fn add(&mut self, name: &str, bytes: &[u8]) -> Result<(), OutOfMemory>
-        ensures ok { OnOk result (self.new ≡ record self.old { held = with_file self.old.held (chars name.now) bytes.now }) }
+        ensures ok { OnOk result (self.new
+            ≡ record self.old { held = with_file self.old.held (chars name.now) bytes.now }) }
         ensures err { OnErr result (self.new ≡ self.old) }
     {
         let bytes = ListOf::from_slice(self.alloc, bytes)?;
@@ -69,9 +82,11 @@ impl MemFiles {
         }
     }
 
-    /// Lets this call of `open` and `read` fail, counted together from 1. Where memory is wanting, all stays as it was.
+    /// Lets this call of `open` and `read` fail, counted together from 1. Where memory is wanting,
+    /// all stays as it was.
     pub fn fail_at(&mut self, call: u64) -> Result<(), OutOfMemory>
-        ensures ok { OnOk result (self.new ≡ record self.old { failing = self.old.failing ++ call ∷ [] }) }
+        ensures ok { OnOk result
+            (self.new ≡ record self.old { failing = self.old.failing ++ call ∷ [] }) }
         ensures err { OnErr result (self.new ≡ self.old) }
     {
         self.failing.push(call)?;
@@ -80,33 +95,35 @@ impl MemFiles {
 }
 
 impl Files for MemFiles {
-    ghost use Rattle.std.specs.Prelude.{Some, is_some};
-    ghost use Rattle.gtm_base.specs.Keys.{value_of};
-    ghost use Rattle.gtm_base.specs.Memory.{name_in, left_in};
+    ghost use Rattle.gtm_base.specs.Memory.{files_state};
 
-    ghost held = { λ files. Some (λ name. value_of name files.held) };
-
-    ghost is_open = { λ files. is_some files.file };
-
-    ghost open_name = { name_in };
-
-    ghost left = { left_in };
-
-    ghost names = { λ files. files.names };
-
-    ghost faults = { λ files. files.faults };
+    ghost state = { files_state };
 
     /// Counts the call. Fails where the name is not held, and else only where this call is to fail.
     fn open(&mut self, name: &str) -> Result<(), FileFailed>
         ensures names { AddsName self.old.names self.new.names (chars name.now) }
-        ensures bytes { OnOk result ((left_in self.new ≡ value_of (chars name.now) self.old.held) × IsSome (value_of (chars name.now) self.old.held)) }
+        ensures bytes { OnOk result (left_in self.new ≡ value_of (chars name.now) self.old.held) }
+        ensures holds { OnOk result (IsSome (value_of (chars name.now) self.old.held)) }
         ensures open_name { OnOk result (name_in self.new ≡ Some (chars name.now)) }
         ensures absent { value_of (chars name.now) self.old.held ≡ None → IsErr result }
         ensures later { self.old.faults ≤ self.new.faults }
-        ensures ok { OnOk result (self.new ≡ record self.old { calls = one_more self.old.calls; file = place_of (chars name.now) self.old.held; done = 0; names = self.new.names }) }
-        ensures err { OnErr result (self.new ≡ record self.old { calls = one_more self.old.calls; faults = faults_after_open self.old (chars name.now); file = None; names = self.new.names }) }
-        ensures fails { IsTrue (is_among self.old.failing (one_more self.old.calls)) → IsErr result }
-        ensures opens { IsSome (value_of (chars name.now) self.old.held) → is_among self.old.failing (one_more self.old.calls) ≡ false → IsOk result }
+        ensures ok { OnOk result (self.new ≡ record self.old {
+          calls = one_more self.old.calls;
+          file = place_of (chars name.now) self.old.held;
+          done = 0;
+          names = self.new.names;
+        }) }
+        ensures err { OnErr result (self.new ≡ record self.old {
+          calls = one_more self.old.calls;
+          faults = faults_after_open self.old (chars name.now);
+          file = None;
+          names = self.new.names;
+        }) }
+        ensures fails { IsTrue (is_among self.old.failing (one_more self.old.calls))
+            → IsErr result }
+        ensures opens { IsSome (value_of (chars name.now) self.old.held)
+            → is_among self.old.failing (one_more self.old.calls) ≡ false
+            → IsOk result }
     {
         self.file = None;
         keep_name(self.alloc, &mut self.names, name);
@@ -125,18 +142,29 @@ impl Files for MemFiles {
         }
     }
 
-    /// Counts the call. Reads as much as there is room for, and fails only where this call is to fail.
+    /// Counts the call. Reads as much as there is room for, and fails only where this call is to
+    /// fail.
     fn read(&mut self, piece: &mut [u8]) -> Result<usize, FileFailed>
         requires { IsSome self.old.file }
-        ensures count { IfOk result (λ count. count ≡ min (length piece.old) (left_count self.old)) }
-        ensures bytes { IfOk result (λ count. left_in self.old ≡ followed_by (take count piece.new) (left_in self.new)) }
+        ensures count { IfOk result
+            (λ count. count ≡ min (length piece.old) (left_count self.old)) }
+        ensures bytes { IfOk result
+            (λ count. left_in self.old ≡ followed_by (take count piece.new) (left_in self.new)) }
         ensures rest { IfOk result (λ count. drop count piece.new ≡ drop count piece.old) }
         ensures untouched { OnErr result (piece.new ≡ piece.old) }
-        ensures ok { IfOk result (λ count. self.new ≡ record self.old { calls = one_more self.old.calls; done = self.old.done + count }) }
-        ensures err { OnErr result (self.new ≡ record self.old { calls = one_more self.old.calls; faults = one_more self.old.faults }) }
-        ensures counted { IsCounted self.old.faults self.new.faults result }
-        ensures fails { IsTrue (is_among self.old.failing (one_more self.old.calls)) → IsErr result }
-        ensures reads { is_among self.old.failing (one_more self.old.calls) ≡ false → IsOk result }
+        ensures ok { IfOk result (λ count. self.new ≡ record self.old {
+          calls = one_more self.old.calls;
+          done = self.old.done + count;
+        }) }
+        ensures err { OnErr result (self.new ≡ record self.old {
+          calls = one_more self.old.calls;
+          faults = one_more self.old.faults;
+        }) }
+        ensures counted { Counts (is_err result) self.old.faults self.new.faults }
+        ensures fails { IsTrue (is_among self.old.failing (one_more self.old.calls))
+            → IsErr result }
+        ensures reads { is_among self.old.failing (one_more self.old.calls) ≡ false
+            → IsOk result }
     {
         if fails_now(self.failing.as_slice(), &mut self.calls) {
             self.faults = self.faults.saturating_add(1);
@@ -168,7 +196,8 @@ fn fails_now(failing: &[u64], calls: &mut u64) -> bool
 // What was not read yet of the file at this place.
 fn left_of(files: &[(Text, ListOf<u8>)], place: usize, done: usize) -> &[u8]
     requires { place < length files.now }
-    ensures bytes { option_map (λ pair. drop done pair.1) (slice_get files.now place) ≡ Some result.now }
+    ensures bytes { option_map (λ pair. drop done pair.1) (slice_get files.now place)
+        ≡ Some result.now }
     ensures short { done + length result.now < 2 ^ 64 }
 {
     let bytes = files[place].1.as_slice();

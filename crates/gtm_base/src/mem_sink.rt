@@ -1,5 +1,6 @@
-ghost use Rattle.std.specs.Prelude.{◌≡◌, ◌++◌, ◌∷◌, [], length, IsTrue, IsErr, IfOk, OnOk, OnErr};
-ghost use Rattle.gtm_base.specs.Causes.{IsCounted, one_more};
+ghost use Rattle.std.specs.Prelude.{◌≡◌, ◌++◌, ◌∷◌, [], length, IsTrue, is_err, IsErr, IfOk, OnOk};
+ghost use Rattle.std.specs.Prelude.{OnErr};
+ghost use Rattle.gtm_base.specs.Causes.{Counts, one_more};
 ghost use Rattle.gtm_base.specs.Memory.{is_among};
 
 use crate::{OutOfMemory, Sink, SinkFailed};
@@ -20,7 +21,12 @@ impl Model for MemSink {
 
     ghost Value = { MemorySink };
 
-    ghost view = { λ sink. record { bytes = sink.bytes.items; failing = sink.failing.items; calls = sink.calls; faults = sink.faults } };
+    ghost view = { λ sink. record {
+      bytes = sink.bytes.items;
+      failing = sink.failing.items;
+      calls = sink.calls;
+      faults = sink.faults;
+    } };
 }
 
 impl MemSink {
@@ -36,9 +42,11 @@ impl MemSink {
         }
     }
 
-    /// Lets this call of `write` fail, counted from 1. Where memory is wanting, all stays as it was.
+    /// Lets this call of `write` fail, counted from 1. Where memory is wanting, all stays as it
+    /// was.
     pub fn fail_at(&mut self, call: u64) -> Result<(), OutOfMemory>
-        ensures ok { OnOk result (self.new ≡ record self.old { failing = self.old.failing ++ call ∷ [] }) }
+        ensures ok { OnOk result
+            (self.new ≡ record self.old { failing = self.old.failing ++ call ∷ [] }) }
         ensures err { OnErr result (self.new ≡ self.old) }
     {
         self.failing.push(call)?;
@@ -54,19 +62,25 @@ impl MemSink {
 }
 
 impl Sink for MemSink {
-    ghost use Rattle.std.specs.Prelude.{Some};
+    ghost use Rattle.gtm_base.specs.Memory.{sink_state};
 
-    ghost taken = { λ sink. Some sink.bytes };
+    ghost state = { sink_state };
 
-    ghost faults = { λ sink. sink.faults };
-
-    /// Counts the call. Takes the whole piece, and fails only where this call is to fail or memory is wanting.
+    /// Counts the call. Takes the whole piece, and fails only where this call is to fail or memory
+    /// is wanting.
     fn write(&mut self, piece: &[u8]) -> Result<usize, SinkFailed>
         ensures count { IfOk result (λ count. count ≡ length piece.now) }
-        ensures ok { OnOk result (self.new ≡ record self.old { bytes = self.old.bytes ++ piece.now; calls = one_more self.old.calls }) }
-        ensures err { OnErr result (self.new ≡ record self.old { calls = one_more self.old.calls; faults = one_more self.old.faults }) }
-        ensures counted { IsCounted self.old.faults self.new.faults result }
-        ensures fails { IsTrue (is_among self.old.failing (one_more self.old.calls)) → IsErr result }
+        ensures ok { OnOk result (self.new ≡ record self.old {
+          bytes = self.old.bytes ++ piece.now;
+          calls = one_more self.old.calls;
+        }) }
+        ensures err { OnErr result (self.new ≡ record self.old {
+          calls = one_more self.old.calls;
+          faults = one_more self.old.faults;
+        }) }
+        ensures counted { Counts (is_err result) self.old.faults self.new.faults }
+        ensures fails { IsTrue (is_among self.old.failing (one_more self.old.calls))
+            → IsErr result }
     {
         self.calls = self.calls.saturating_add(1);
         let fails = self.failing.contains(&self.calls);

@@ -27,7 +27,8 @@ impl Write for Stream {
     }
 }
 
-/// A stream of the system, or another writer. As a `Sink` it tells nothing of what it took. Beyond that, what `write` answers is what the writer took, where its type tells it.
+/// A stream of the system, or another writer. As a `Sink` it tells nothing of what it took. Beyond
+/// that, what `write` answers is what the writer took, where its type tells it.
 #[derive(Drop)]
 pub struct OutSink<W: Write + Drop = Stream> {
     stream: W,
@@ -68,20 +69,19 @@ impl<W: Write + Drop> OutSink<W> {
 }
 
 impl<W: Write + Drop> Sink for OutSink<W> {
-    ghost use Rattle.std.specs.Prelude.{◌≡◌, ◌<◌, ◌≤◌, None, IfOk, length};
+    ghost use Rattle.std.specs.Prelude.{◌≡◌, ◌<◌, ◌≤◌, IfOk, is_err, length};
     ghost use Rattle.std.specs.Io.KnownBytes.{WriteAppends};
-    ghost use Rattle.gtm_base.specs.Causes.{IsCounted};
+    ghost use Rattle.gtm_base.specs.Causes.{Counts};
+    ghost use Rattle.gtm_base.specs.Disk.{stream_sink_state};
 
-    ghost taken = { λ _. None };
-
-    ghost faults = { λ sink. sink.faults };
+    ghost state = { stream_sink_state };
 
     /// Fails where the writer fails or takes nothing.
     fn write(&mut self, piece: &[u8]) -> Result<usize, SinkFailed>
         requires { 0 < length piece.now }
         ensures count { IfOk result (λ count. (0 < count) × (count ≤ length piece.now)) }
         ensures written { WriteAppends self.old.written self.new.written result piece.now }
-        ensures counted { IsCounted self.old.faults self.new.faults result }
+        ensures counted { Counts (is_err result) self.old.faults self.new.faults }
     {
         match self.stream.write(piece) {
             Ok(count) if count > 0 => Ok(count),

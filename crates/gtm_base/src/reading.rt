@@ -1,6 +1,6 @@
-ghost use Rattle.std.specs.Prelude.{◌≡◌, ◌≤◌, ◌<◌, IsTrue, [], take, length, OnOk, IfOk, IsErrOf, IfSome, vec_len};
-ghost use Rattle.gtm_base.specs.Causes.{Rose};
-ghost use Rattle.gtm_base.specs.Outside.{followed_by, ReadOn};
+ghost use Rattle.std.specs.Prelude.{◌≡◌, ◌≤◌, ◌<◌, IsTrue, [], IfOk, IfSome, vec_len};
+ghost use Rattle.gtm_base.specs.FileFault.{is_file_fault};
+ghost use Rattle.gtm_base.specs.Outside.{ReadsOn, ReadWithin, followed_by};
 
 use crate::{FileFailed, Files, OutOfMemory};
 use std::alloc::Global;
@@ -14,22 +14,20 @@ pub enum ReadEnd {
     FileFailed,
 }
 
-/// Reads the rest of the open file, or its next `limit` bytes where there are more. The file stays open.
+/// Reads the rest of the open file, or its next `limit` bytes where there are more. The file stays
+/// open.
 ///
-/// `FileFailed` comes only with a rise of the files' count. After an error some bytes may have been read.
+/// `FileFailed` comes only with a rise of the files' count. After an error some bytes may have been
+/// read, never more than `limit`.
 pub fn read_whole<F: Files>(alloc: Global, files: &mut F, limit: u64) -> Result<Vec<u8>, ReadEnd>
-    requires { IsTrue (F.is_open files.old) }
-    ensures open { IsTrue (F.is_open files.new) }
-    ensures held { F.held files.new ≡ F.held files.old }
-    ensures open_name { F.open_name files.new ≡ F.open_name files.old }
-    ensures names { F.names files.new ≡ F.names files.old }
-    ensures bytes { IfOk result (λ bytes. F.left files.old ≡ followed_by bytes.items (F.left files.new)) }
-    ensures end { IfOk result (λ bytes. vec_len bytes < limit → IfSome (F.left files.new) (λ left. left ≡ [])) }
-    ensures within { IfOk result (λ bytes. vec_len bytes ≤ limit) }
-    ensures read_on { ReadOn (F.left files.old) (F.left files.new) }
-    ensures later { F.faults files.old ≤ F.faults files.new }
-    ensures failed { IsErrOf result ReadEnd.FileFailed → Rose (F.faults files.old) (F.faults files.new) }
-    ensures kept { OnOk result (F.faults files.new ≡ F.faults files.old) }
+    requires { IsTrue (F.state files.old).is_open }
+    ensures files { ReadsOn is_file_fault result (F.state files.old) (F.state files.new) }
+    ensures bytes { IfOk result (λ bytes.
+        (F.state files.old).left ≡ followed_by bytes.items (F.state files.new).left) }
+    ensures end { IfOk result (λ bytes.
+        vec_len bytes < limit → IfSome (F.state files.new).left (λ left. left ≡ [])) }
+    ensures short { IfOk result (λ bytes. vec_len bytes ≤ limit) }
+    ensures within { ReadWithin limit (F.state files.old).left (F.state files.new).left }
 {
     let mut bytes = Vec::new(alloc);
     let mut piece = [0u8; PIECE];

@@ -16,6 +16,8 @@ pub enum Status {
     ExportRefused { rule: u8, path: Text },
     /// The trace's first bad line, counted from 1, and the least rule that it breaks.
     TraceRefused { line: u64, rule: u8 },
+    /// The step with this number, from 1, needs one job more than a step may have.
+    JobLimit { step: u64 },
     /// The text could not be written.
     SinkFault,
     /// Memory was wanted and was not there.
@@ -33,6 +35,7 @@ impl Status {
             Status::FileFault => 3,
             Status::ExportRefused { .. } => 4,
             Status::TraceRefused { .. } => 5,
+            Status::JobLimit { .. } => 7,
             Status::SinkFault => 8,
             Status::OutOfMemory => 9,
         }

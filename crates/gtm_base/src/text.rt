@@ -1,4 +1,5 @@
-ghost use Rattle.std.specs.Prelude.{◌≡◌, [], ◌∷◌, ◌++◌, IfOk, IsTrue, OnOk, OnErr, encode_utf8_all, decimal};
+ghost use Rattle.std.specs.Prelude.{◌≡◌, [], ◌∷◌, ◌++◌, IfOk, IsTrue, OnOk, OnErr, encode_utf8_all};
+ghost use Rattle.std.specs.Prelude.{decimal};
 ghost use Rattle.std.specs.Str.{chars, bytes_eq};
 ghost use Rattle.std.specs.Fmt.{signed_decimal};
 ghost use Rattle.gtm_base.specs.Ascii.{is_all_ascii};
@@ -129,7 +130,8 @@ impl Text {
         self.push_str(digits.format(number))
     }
 
-    /// Puts the digits of a number behind, after `-` where it is negative. Where memory is wanting, the text stays as it was.
+    /// Puts the digits of a number behind, after `-` where it is negative. Where memory is wanting,
+    /// the text stays as it was.
     pub fn push_signed(&mut self, number: i64) -> Result<(), OutOfMemory>
         ensures ok { OnOk result (self.new ≡ self.old ++ signed_decimal number) }
         ensures err { OnErr result (self.new ≡ self.old) }

@@ -1,4 +1,5 @@
-use Rattle.gtm_base.proofs.KeyLaws.{value_is_paired, place_is_paired, absent_has_no_value, distinct_is_alone, has_key_is_paired}
+use Rattle.gtm_base.proofs.KeyLaws.{value_is_paired, place_is_paired, absent_has_no_value}
+use Rattle.gtm_base.proofs.KeyLaws.{distinct_is_alone, has_key_is_paired}
 use Rattle.gtm_base.proofs.laws.keys_lead_to_their_pairs.Goals as goal
 
 pub returns-clause-value : goal.returns-clause-value

@@ -41,7 +41,8 @@ the_former values =
 
 abbrev pub the_weighed : {values : Former {0}} → Weighed values → Weighed (the_former values)
 the_weighed weighed = record {
-  weight = λ X measure keyed. (w_list (w_pair (w_const (List ℕ)) weighed)).weight X measure keyed.pairs;
+  weight =
+      λ X measure keyed. (w_list (w_pair (w_const (List ℕ)) weighed)).weight X measure keyed.pairs;
   puts = λ X measure keyed. (w_list (w_pair (w_const (List ℕ)) weighed)).puts X measure keyed.pairs;
 }
 
@@ -51,11 +52,13 @@ the_empty = record { pairs = []; distinct = refl }
 abbrev pub the_items : (X : Type 0) → Keyed X → List X
 the_items X keyed = map (λ pair. pair.1) keyed.pairs
 
-values_listed : (X : Type 0) (pairs : List (List ℕ × X)) → listed _ (children (pairs_of this) X pairs) ≡ map (λ pair. pair.1) pairs
+values_listed : (X : Type 0) (pairs : List (List ℕ × X))
+    → listed _ (children (pairs_of this) X pairs) ≡ map (λ pair. pair.1) pairs
 values_listed X [] = refl
 values_listed X (pair ∷ pairs) = ap (λ rest. pair.1 ∷ rest) (values_listed X pairs)
 
-pub the_items_listed : (X : Type 0) (keyed : Keyed X) → listed _ (children (the_former this) X keyed) ≡ the_items X keyed
+pub the_items_listed : (X : Type 0) (keyed : Keyed X)
+    → listed _ (children (the_former this) X keyed) ≡ the_items X keyed
 the_items_listed X keyed = values_listed X keyed.pairs
 
 abbrev pair_row : RattleType → RattleType
@@ -63,13 +66,31 @@ pair_row R = Tuple (text.the_row ∷ R ∷ [])
 
 module _ (R S : RattleType) (along : R.Denot → S.Denot) where
   pairs_alike : Alike R S along → Alike (pair_row R) (pair_row S) (on_value along)
-  pairs_alike alike = struct_places (tuple_type (text.the_row ∷ R ∷ [])) (tuple_type (text.the_row ∷ S ∷ [])) ((λ key. key), (along, tt)) (on_value along) (λ _. refl) refl (stays text.the_row, (laid R S along alike, tt))
+  pairs_alike alike =
+      struct_places (tuple_type (text.the_row ∷ R ∷ [])) (tuple_type (text.the_row ∷ S ∷ []))
+      ((λ key. key), (along, tt)) (on_value along) (λ _. refl) refl
+      (stays text.the_row, (laid R S along alike, tt))
 
-  pub the_places : Alike R S along → Alike (contracts.the_row R) (contracts.the_row S) ((the_former this).map R.Denot S.Denot along)
-  the_places alike = struct_places (contracts.the_type R) (contracts.the_type S) (map (on_value along), tt) ((the_former this).map R.Denot S.Denot along) (λ _. refl) refl (laid _ _ _ (list_of.the_places (pair_row R) (pair_row S) (on_value along) (pairs_alike alike)), tt)
+  pub the_places : Alike R S along
+      → Alike (contracts.the_row R) (contracts.the_row S)
+      ((the_former this).map R.Denot S.Denot along)
+  the_places alike =
+      struct_places (contracts.the_type R) (contracts.the_type S) (map (on_value along), tt)
+      ((the_former this).map R.Denot S.Denot along) (λ _. refl) refl (
+        laid _ _ _
+            (list_of.the_places (pair_row R) (pair_row S) (on_value along) (pairs_alike alike)),
+        tt,
+      )
 
   pairs_recoded : Recodes R S along → Recodes (pair_row R) (pair_row S) (on_value along)
-  pairs_recoded same = struct_Codes (tuple_type (text.the_row ∷ R ∷ [])) (tuple_type (text.the_row ∷ S ∷ [])) ((λ key. key), (along, tt)) (on_value along) (λ _. refl) ((λ _. refl), (same, tt))
+  pairs_recoded same =
+      struct_Codes (tuple_type (text.the_row ∷ R ∷ [])) (tuple_type (text.the_row ∷ S ∷ []))
+      ((λ key. key), (along, tt)) (on_value along) (λ _. refl) ((λ _. refl), (same, tt))
 
-  pub the_codes_placed : Recodes R S along → Recodes (contracts.the_row R) (contracts.the_row S) ((the_former this).map R.Denot S.Denot along)
-  the_codes_placed same = struct_Codes (contracts.the_type R) (contracts.the_type S) (map (on_value along), tt) ((the_former this).map R.Denot S.Denot along) (λ _. refl) (list_of.the_codes_placed (pair_row R) (pair_row S) (on_value along) (pairs_recoded same), tt)
+  pub the_codes_placed : Recodes R S along
+      → Recodes (contracts.the_row R) (contracts.the_row S)
+      ((the_former this).map R.Denot S.Denot along)
+  the_codes_placed same =
+      struct_Codes (contracts.the_type R) (contracts.the_type S) (map (on_value along), tt)
+      ((the_former this).map R.Denot S.Denot along) (λ _. refl)
+      (list_of.the_codes_placed (pair_row R) (pair_row S) (on_value along) (pairs_recoded same), tt)

@@ -32,23 +32,35 @@ the_empty = []
 abbrev pub the_items : (X : Type 0) → List X → List X
 the_items X items = items
 
-pub the_items_listed : (X : Type 0) (items : List X) → listed _ (children (the_former this) X items) ≡ the_items X items
+pub the_items_listed : (X : Type 0) (items : List X)
+    → listed _ (children (the_former this) X items) ≡ the_items X items
 the_items_listed X items = list-listed X items
 
 -- the struct's own field holds them in a `Vec`
 abbrev in_fields : Former {0}
-in_fields = via (vec.the_former this Global) Inside (λ X fields. fields.inner) (λ X inner. record { inner = inner }) (λ X fields. refl) (λ X inner. refl)
+in_fields =
+    via (vec.the_former this Global) Inside (λ X fields. fields.inner)
+    (λ X inner. record { inner = inner }) (λ X fields. refl) (λ X inner. refl)
 
 module _ (R S : RattleType) (along : R.Denot → S.Denot) where
-  fields_alike : Alike R S along → Alike (inside.the_row R) (inside.the_row S) (in_fields.map R.Denot S.Denot along)
-  fields_alike alike = struct_places (inside.the_type R) (inside.the_type S) (vec.mapped along, tt) _ (λ _. refl) refl (laid _ _ _ (vec.the_places global.the_row ghosts R S along alike), tt)
+  fields_alike : Alike R S along
+      → Alike (inside.the_row R) (inside.the_row S) (in_fields.map R.Denot S.Denot along)
+  fields_alike alike =
+      struct_places (inside.the_type R) (inside.the_type S) (vec.mapped along, tt) _ (λ _. refl)
+      refl (laid _ _ _ (vec.the_places global.the_row ghosts R S along alike), tt)
 
-  pub the_places : Alike R S along → Alike (contracts.the_row R) (contracts.the_row S) ((the_former this).map R.Denot S.Denot along)
+  pub the_places : Alike R S along
+      → Alike (contracts.the_row R) (contracts.the_row S)
+      ((the_former this).map R.Denot S.Denot along)
   the_places alike =
       view_places in_fields (list this) view (λ X Y _ _. refl) (λ X _. refl) R.Denot S.Denot along
-      (contracts.the_row R).coded (contracts.the_row S).coded (invariant R.Denot) (invariant S.Denot)
+      (contracts.the_row R).coded (contracts.the_row S).coded (invariant R.Denot)
+      (invariant S.Denot)
       (λ _ _ _. refl) (λ _ _ _. refl) (λ _ _. tt) (λ _ _. tt)
       (over (inside.the_row R)) (over (inside.the_row S)) (fields_alike alike)
 
-  pub the_codes_placed : Recodes R S along → Recodes (contracts.the_row R) (contracts.the_row S) ((the_former this).map R.Denot S.Denot along)
-  the_codes_placed same items = sym (code_map R.coded.code S.coded.code along (λ x. sym (same x)) items)
+  pub the_codes_placed : Recodes R S along
+      → Recodes (contracts.the_row R) (contracts.the_row S)
+      ((the_former this).map R.Denot S.Denot along)
+  the_codes_placed same items =
+      sym (code_map R.coded.code S.coded.code along (λ x. sym (same x)) items)

@@ -6,6 +6,7 @@ use Rattle.gtm_base.proofs.keyed.Keyed.place_of.Given as goal
 
 abbrev pub invariant-loop-at : goal.invariant-loop-at
 invariant-loop-at g l = record {
-  place : place_of (chars l.key) l.pair-items ≡ option_map (λ place. l.at + place) (place_of (chars l.key) (drop l.at l.pair-items));
+  place : place_of (chars l.key) l.pair-items
+      ≡ option_map (λ place. l.at + place) (place_of (chars l.key) (drop l.at l.pair-items));
   absent : has_key (chars l.key) l.pair-items ≡ has_key (chars l.key) (drop l.at l.pair-items);
 }

@@ -7,12 +7,28 @@ use Rattle.gtm_base.proofs.keyed.Keyed.value_mut.Goals as goal
 
 pub invariant_of-self-lent : goal.invariant_of-self-lent
 invariant_of-self-lent g c w =
-    let old = c.args.self.now in
-    (ap distinct_keys (set_is old.pairs c.args.at c.get_mut-pair.result.now w c.requires c.get_mut-pair.ensures.value) ∙ distinct_keys-with_value old.pairs c.args.at w ∙ old.distinct, tt)
+    let old = c.args.self.now in (
+      ap distinct_keys
+          (set_is old.pairs c.args.at c.get_mut-pair.result.now w c.requires
+          c.get_mut-pair.ensures.value) ∙ distinct_keys-with_value old.pairs c.args.at w ∙ old.distinct,
+      tt,
+    )
 
 pub returns : goal.returns
 returns g c =
     let old = c.args.self.now in (
-      (refl, λ w. same_keyed _ _ (set_is old.pairs c.args.at c.get_mut-pair.result.now w c.requires c.get_mut-pair.ensures.value)),
-      record { writes_back = tt; value = value_is old.pairs c.args.at c.get_mut-pair.result.now c.requires c.get_mut-pair.ensures.value },
+      (
+        refl,
+        λ w.
+            same_keyed _ _
+            (set_is old.pairs c.args.at c.get_mut-pair.result.now w c.requires
+            c.get_mut-pair.ensures.value),
+      ),
+      record {
+        writes_back =
+            tt;
+        value =
+            value_is old.pairs c.args.at c.get_mut-pair.result.now c.requires
+            c.get_mut-pair.ensures.value;
+      },
     )

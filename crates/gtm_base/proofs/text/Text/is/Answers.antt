@@ -7,5 +7,6 @@ use Rattle.gtm_base.proofs.text.Text.is.Goals as goal
 pub returns : goal.returns
 returns c =
     c.eq.ensures
-    ∙ (λ i. bytes_eq (c.as_str.ensures.bytes i) (sym (encodes-chars c.args.other.now c.utf8.other) i))
+    ∙ (λ i. bytes_eq (c.as_str.ensures.bytes i)
+    (sym (encodes-chars c.args.other.now c.utf8.other) i))
     ∙ bytes_eq-encoded c.args.self.now (chars c.args.other.now)

@@ -9,5 +9,7 @@ pub returns-clause-ok : goal.returns-clause-ok
 returns-clause-ok c =
     let number = c.args.number in
     let digits : chars c.format.result.now ≡ signed_decimal number
-    = chars-IsAscii c.format.result.now c.format.ensures.ascii ∙ c.format.ensures.text ∙ ap signed_decimal (to_z-of_z _ number c.ranges.number) in
+    =
+    chars-IsAscii c.format.result.now c.format.ensures.ascii ∙ c.format.ensures.text
+    ∙ ap signed_decimal (to_z-of_z _ number c.ranges.number) in
     rw digits at c.push_str.ensures.ok
