@@ -1,5 +1,6 @@
 -- The first digit of a number that is written in decimal digits.
-use Rattle.std.proofs.Common.{◌≡◌, ℕ, zero, suc, ◌<◌, ◌≤◌, ◌^◌, List, [], ◌∷◌, length, get_or, false, true≢false, sym, ◌∙◌, arith}
+use Rattle.std.proofs.Common.{◌≡◌, ℕ, zero, suc, ◌<◌, ◌≤◌, ◌^◌, List, [], ◌∷◌, length, get_or}
+use Rattle.std.proofs.Common.{false, true≢false, sym, ◌∙◌, arith}
 use Rattle.std.specs.Prelude.{decimal}
 use Rattle.std.specs.Str.{chars, bytes_eq, IsUtf8}
 use Rattle.std.proofs.lemmas.Str.Parse.{digit_at}
@@ -17,14 +18,24 @@ begins : (at : ℕ) → 0 < at → at < 2 ^ 64 → Begins (decimal at)
 begins at positive fits =
     let digits = decimal_is_IsNumeral at fits in
     let first = digit_at (decimal at) 0 digits.0.1 digits.0.0 in
-    record { some = omega (arith, digits.0.0); low = first_decimal at positive fits; high = omega (arith, first) }
+    record {
+      some =
+          omega (arith, digits.0.0);
+      low =
+          first_decimal at positive fits;
+      high = omega (arith, first);
+    }
 
-pub first_digit : (bytes : List ℕ) (at : ℕ) → IsUtf8 bytes → (bytes ≡ 48 ∷ [] → ⊥) → at < 2 ^ 64 → decimal at ≡ chars bytes → Begins bytes
-first_digit bytes zero utf8 other fits same = absurd (other (bytes_of bytes zero utf8 fits same ∙ decimal_digit 0 (omega arith)))
+pub first_digit : (bytes : List ℕ) (at : ℕ) → IsUtf8 bytes → (bytes ≡ 48 ∷ [] → ⊥) → at < 2 ^ 64
+    → decimal at ≡ chars bytes → Begins bytes
+first_digit bytes zero utf8 other fits same =
+    absurd (other (bytes_of bytes zero utf8 fits same ∙ decimal_digit 0 (omega arith)))
 first_digit bytes (suc at) utf8 other fits same =
     let is : bytes ≡ decimal (suc at) = bytes_of bytes (suc at) utf8 fits same in
     let all = begins (suc at) (omega arith) fits in
     record { some = rw is all.some; low = rw is all.low; high = rw is all.high }
 
-pub not_the_word : (byte : ℕ) (bytes : List ℕ) → bytes_eq bytes (byte ∷ []) ≡ false → bytes ≡ byte ∷ [] → ⊥
-not_the_word byte bytes other same = true≢false (sym ((bytes_eq-Decides bytes (byte ∷ [])).1 same) ∙ other)
+pub not_the_word : (byte : ℕ) (bytes : List ℕ) → bytes_eq bytes (byte ∷ []) ≡ false
+    → bytes ≡ byte ∷ [] → ⊥
+not_the_word byte bytes other same =
+    true≢false (sym ((bytes_eq-Decides bytes (byte ∷ [])).1 same) ∙ other)

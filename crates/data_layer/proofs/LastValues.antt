@@ -1,5 +1,6 @@
 -- What a message leaves of the values of version 1, key by key.
-use Rattle.std.proofs.Common.{◌≡◌, ℕ, List, ◌++◌, Option, Some, None, Bool, true, false, if◌then◌else◌, append-nil, refl, sym, ap, ◌∙◌}
+use Rattle.std.proofs.Common.{◌≡◌, ℕ, List, ◌++◌, Option, Some, None, Bool, true, false}
+use Rattle.std.proofs.Common.{if◌then◌else◌, append-nil, refl, sym, ap, ◌∙◌}
 use Rattle.std.specs.Option.{option_or}
 use Rattle.std.specs.Str.{bytes_eq}
 use Rattle.gtm_data.specs.Tree.{Tree, Entries, none, entry}
@@ -15,24 +16,30 @@ overwritten : (v : Tree) (old : Option Tree) → changed (λ _. v) v old ≡ v
 overwritten v None = refl
 overwritten v (Some m) = refl
 
-last_value_at : (test : Bool) (sought name : List ℕ) (v : Tree) (es old : Entries) → bytes_eq name sought ≡ test → member name es ≡ None
-    → option_or (member sought es) (member sought (put name (λ _. v) v old)) ≡ option_or (if test then Some v else member sought es) (member sought old)
+last_value_at : (test : Bool) (sought name : List ℕ) (v : Tree) (es old : Entries)
+    → bytes_eq name sought ≡ test → member name es ≡ None
+    → option_or (member sought es) (member sought (put name (λ _. v) v old))
+    ≡ option_or (if test then Some v else member sought es) (member sought old)
 last_value_at true sought name v es old is lacks =
     let same : sought ≡ name = sym (equal_keys name sought is) in
     ap (λ k. option_or (member k es) (member k (put name (λ _. v) v old))) same
     ∙ ap (λ found. option_or found (member name (put name (λ _. v) v old))) lacks
     ∙ put_same name (λ _. v) v old
     ∙ ap Some (overwritten v (member name old))
-last_value_at false sought name v es old is lacks = ap (option_or (member sought es)) (put_other name (λ _. v) v sought old is)
+last_value_at false sought name v es old is lacks =
+    ap (option_or (member sought es)) (put_other name (λ _. v) v sought old is)
 
-pub last_value : (sought : List ℕ) (es old : Entries) → DistinctEntries es → member sought (version_one_after es old) ≡ option_or (member sought es) (member sought old)
+pub last_value : (sought : List ℕ) (es old : Entries) → DistinctEntries es
+    → member sought (version_one_after es old) ≡ option_or (member sought es) (member sought old)
 unfolding version_one_after
 last_value sought none old distinct = refl
 last_value sought (entry name v es) old distinct =
     last_value sought es (put name (λ _. v) v old) distinct.2
-    ∙ last_value_at (bytes_eq name sought) sought name v es old refl (absent_member name es distinct.0)
+    ∙ last_value_at (bytes_eq name sought) sought name v es old refl
+    (absent_member name es distinct.0)
 
-pub keys_after : (es old : Entries) → DistinctEntries es → keys (version_one_after es old) ≡ keys old ++ new_keys (keys old) (keys es)
+pub keys_after : (es old : Entries) → DistinctEntries es
+    → keys (version_one_after es old) ≡ keys old ++ new_keys (keys old) (keys es)
 unfolding version_one_after
 keys_after none old distinct = sym (append-nil (keys old))
 keys_after (entry name v es) old distinct =

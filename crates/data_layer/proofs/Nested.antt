@@ -3,6 +3,8 @@ use Rattle.std.proofs.Common.{◌≡◌, ℕ, List, [], ◌∷◌, ◌++◌, ref
 use Rattle.gtm_data.specs.Tree.{Tree, object, entry, none}
 use Rattle.data_layer.specs.Layer.{nest}
 
-pub nest-last : (parts : List (List ℕ)) (part : List ℕ) (t : Tree) → nest (parts ++ part ∷ []) t ≡ nest parts (object (entry part t none))
+pub nest-last : (parts : List (List ℕ)) (part : List ℕ) (t : Tree)
+    → nest (parts ++ part ∷ []) t ≡ nest parts (object (entry part t none))
 nest-last [] part t = refl
-nest-last (first ∷ parts) part t = ap (λ inside. object (entry first inside none)) (nest-last parts part t)
+nest-last (first ∷ parts) part t =
+    ap (λ inside. object (entry first inside none)) (nest-last parts part t)

@@ -1,14 +1,18 @@
 -- Command arrays: what one does to the List at a path of the model.
-use Rattle.std.specs.Prelude.{◌≡◌, ℕ, ◌+◌, ◌-◌, nat_lt, List, [], ◌∷◌, ◌++◌, length, take, drop, reverse, slice_get, Bool, not, is_some, Option, Some, None, option_map, option_and_then, unwrap_or, if◌then◌else◌, codes}
+use Rattle.std.specs.Prelude.{◌≡◌, ℕ, ◌+◌, ◌-◌, nat_lt, List, [], ◌∷◌, ◌++◌, length, take, drop}
+use Rattle.std.specs.Prelude.{reverse, slice_get, Bool, not, is_some, Option, Some, None}
+use Rattle.std.specs.Prelude.{option_map, option_and_then, unwrap_or, if◌then◌else◌, codes}
 use Rattle.std.specs.List.{list_any}
 use Rattle.std.specs.Str.{bytes_eq}
 use Rattle.gtm_data.specs.Paths.{Step, at, dotted, walk, Writes}
+use Rattle.gtm_data.specs.declared.limits.TheConstants.{MAX_DEPTH}
 use Rattle.gtm_data.specs.Tree.{Tree, text, list, Trees, end, item, trees, depth}
 use Rattle.data_layer.specs.Change.{changed_at}
 use Rattle.data_layer.specs.Layer.{LayerState}
 use Rattle.data_layer.specs.Shown.{shown}
 use Rattle.data_layer.specs.declared.commands.Method.{Method}
-use Rattle.data_layer.specs.declared.commands.Method.TheVariants.{Push, Pop, Shift, Unshift, Reverse}
+use Rattle.data_layer.specs.declared.commands.Method.TheVariants.{Push, Pop, Shift, Unshift}
+use Rattle.data_layer.specs.declared.commands.Method.TheVariants.{Reverse}
 
 -- the items of a List
 abbrev pub listed : Trees → List Tree
@@ -39,10 +43,12 @@ pub record Command : Type 0 where
 -- the command of these parts: the last one names the method, and the others are the path
 abbrev pub command_of : List (List ℕ) → List Tree → Option Command
 command_of parts items =
-    option_map (λ method. record { path = take (length parts - 1) parts; method = method; items = items })
+    option_map
+    (λ method. record { path = take (length parts - 1) parts; method = method; items = items })
     (option_and_then method_named (slice_get parts (length parts - 1)))
 
--- the command that a value is, if it is one: a List whose first item is a text, of which these are the dotted parts
+-- the command that a value is, if it is one: a List whose first item is a text, of which these are
+-- the dotted parts
 abbrev pub command_in : Tree → Option Command
 command_in (list (item (text words) ts)) = command_of (dotted words) (listed ts)
 command_in _ = None
@@ -61,15 +67,19 @@ added Push items = items
 added Unshift items = items
 added _ items = []
 
--- an item that the command adds would nest over 64 deep
+-- an item that the command adds would nest too deep
 abbrev pub adds_too_deep : Command → Bool
-adds_too_deep command = list_any (λ t. nat_lt 64 (depth t + length command.path + 1)) (added command.method command.items)
+adds_too_deep command =
+    list_any (λ t. nat_lt MAX_DEPTH (depth t + length command.path + 1))
+    (added command.method command.items)
 
 -- the model after a command; nothing where no List is at its path, or an item would nest too deep
 abbrev pub model_after : Command → Tree → Option Tree
 model_after command model =
     if adds_too_deep command then None
-    else option_map (λ old. changed_at command.path (λ _. list (trees (after_method command.method command.items old))) model)
+    else option_map
+    (λ old. changed_at command.path
+    (λ _. list (trees (after_method command.method command.items old))) model)
     (option_and_then items_in (walk command.path model))
 
 -- the model after a pushed List; nothing where it is no command, or one that does nothing
@@ -82,12 +92,15 @@ is_ignored_command pushed layer = not (is_some (commanded pushed layer.model))
 
 -- the layer after a pushed List; the values of version 1 stay
 abbrev pub after_command : Tree → LayerState → LayerState
-after_command pushed layer = record layer { model = unwrap_or (commanded pushed layer.model) layer.model }
+after_command pushed layer =
+    record layer { model = unwrap_or (commanded pushed layer.model) layer.model }
 
--- r is m with a List of these items at the path: every other path, but for those into the List, shows what it showed
+-- r is m with a List of these items at the path: every other path, but for those into the List,
+-- shows what it showed
 pub record HasListAt (path : List Step) (items : List Tree) (m r : Tree) : Type 0 where
   pub there : at path r ≡ Some (list (trees items))
-  pub others : (other : List Step) → ((rest : List Step) → path ++ rest ≡ other → ⊥) → shown (at other r) ≡ shown (at other m)
+  pub others : (other : List Step) → ((rest : List Step) → path ++ rest ≡ other → ⊥)
+      → shown (at other r) ≡ shown (at other m)
 
 -- r is what a command made of m
 pub record AfterCommand (command : Command) (m r : Tree) : Type 0 where

@@ -1,6 +1,8 @@
 -- The data layer: what a message does to the model and to the values of version 1.
-use Rattle.std.specs.Prelude.{ℕ, ◌+◌, nat_lt, ◌==◌, List, [], ◌∷◌, length, Bool, true, false, ◌||◌, Option, Some, None, if◌then◌else◌}
+use Rattle.std.specs.Prelude.{ℕ, ◌+◌, nat_lt, ◌==◌, List, [], ◌∷◌, length, Bool, true, false, ◌||◌}
+use Rattle.std.specs.Prelude.{Option, Some, None, if◌then◌else◌}
 use Rattle.gtm_data.specs.declared.data.Data.{Data}
+use Rattle.gtm_data.specs.declared.limits.TheConstants.{MAX_DEPTH}
 use Rattle.gtm_data.specs.Tree.{Tree, object, Entries, none, entry, depth, tree_of, entries_of}
 use Rattle.gtm_data.specs.Paths.{dotted, walk, member}
 use Rattle.gtm_data.specs.Distinct.{Distinct, DistinctEntries}
@@ -15,7 +17,8 @@ pub record LayerState : Type 0 where
 abbrev pub empty_layer : LayerState
 empty_layer = record { model = object none; version_one = none }
 
--- no Map of the model, and none of the values of version 1, has a key twice, and no two of those values have the same key
+-- no Map of the model, and none of the values of version 1, has a key twice, and no two of those
+-- values have the same key
 pub record DistinctLayer (layer : LayerState) : Type 0 where
   pub model : Distinct layer.model
   pub version_one : DistinctEntries layer.version_one
@@ -25,10 +28,10 @@ abbrev pub nest : List (List ℕ) → Tree → Tree
 nest [] v = v
 nest (part ∷ parts) v = object (entry part (nest parts v) none)
 
--- some member's key parts and depth are over 64 together
+-- some member's key parts and depth are together over the depth that data may have
 abbrev pub is_too_deep : Entries → Bool
 is_too_deep none = false
-is_too_deep (entry key v es) = nat_lt 64 (length (dotted key) + depth v) || is_too_deep es
+is_too_deep (entry key v es) = nat_lt MAX_DEPTH (length (dotted key) + depth v) || is_too_deep es
 
 -- a message that is no Map, or that would nest too deep, is ignored
 abbrev pub is_ignored : Tree → Bool
@@ -47,12 +50,19 @@ version_one_after (entry key v es) old = version_one_after es (put key (λ _. v)
 
 -- the layer after a message
 abbrev pub after_message : Tree → LayerState → LayerState
-after_message (object es) layer = if is_too_deep es then layer else record { model = after_members es layer.model; version_one = version_one_after es layer.version_one }
+after_message (object es) layer =
+    if is_too_deep es then layer
+    else record {
+      model =
+          after_members es layer.model;
+      version_one = version_one_after es layer.version_one;
+    }
 after_message _ layer = layer
 
 -- the value of a key: in version 1 that of the whole key, in any other that at the dotted path
 abbrev pub layer_value : List ℕ → ℕ → LayerState → Option Tree
-layer_value key version layer = if version == 1 then member key layer.version_one else walk (dotted key) layer.model
+layer_value key version layer =
+    if version == 1 then member key layer.version_one else walk (dotted key) layer.model
 
 -- what a `Layer` holds, or nothing once memory was wanting
 abbrev pub seen : Option (Data × List (List ℕ × Data)) → Option LayerState

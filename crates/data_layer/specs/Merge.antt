@@ -1,12 +1,14 @@
 -- What a tree becomes when another is merged into it.
 use Rattle.std.specs.Prelude.{ℕ, zero, suc, List, if◌then◌else◌}
 use Rattle.std.specs.Str.{bytes_eq}
-use Rattle.gtm_data.specs.Tree.{Tree, undefined, null, bool, whole, text, list, object, foreign, callback, Trees, end, item, Entries, none, entry}
+use Rattle.gtm_data.specs.Tree.{Tree, undefined, null, bool, whole, text, list, object, foreign}
+use Rattle.gtm_data.specs.Tree.{callback, Trees, end, item, Entries, none, entry}
 
 -- changes the value at the key, or adds the tree last
 abbrev pub put : List ℕ → (Tree → Tree) → Tree → Entries → Entries
 put name change t none = entry name t none
-put name change t (entry key m es) = if bytes_eq key name then entry key (change m) es else entry key m (put name change t es)
+put name change t (entry key m es) =
+    if bytes_eq key name then entry key (change m) es else entry key m (put name change t es)
 
 -- a List is changed, and anything else gives way to this tree
 abbrev pub on_list : (Trees → Trees) → Tree → Tree → Tree
@@ -29,7 +31,8 @@ on_item at change t end = item t end
 on_item zero change t (item m ms) = item (change m) ms
 on_item (suc at) change t (item m ms) = item m (on_item at change t ms)
 
--- the second tree, when the first is merged into it: Lists by index, Maps by key, and all else overwrites
+-- the second tree, when the first is merged into it: Lists by index, Maps by key, and all else
+-- overwrites
 unfoldable mutual
   pub merge : Tree → Tree → Tree
   merge undefined m = undefined

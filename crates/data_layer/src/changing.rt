@@ -12,7 +12,8 @@ use gtm_base::{OutOfMemory, Text};
 use gtm_data::{Data, Items, Members};
 use std::alloc::Global;
 
-/// Runs the method of a command on the List to which the parts lead, one after the other, and answers whether they lead to a List. Where memory is wanting, the List is left half changed.
+/// Runs the method of a command on the List to which the parts lead, one after the other, and
+/// answers whether they lead to a List. Where memory is wanting, the List is left half changed.
 #[cycle(change)]
 pub fn change_at(
     alloc: Global,
@@ -20,8 +21,10 @@ pub fn change_at(
     command: &Command,
     model: &mut Data,
 ) -> Result<bool, OutOfMemory>
-    ensures told { IfOk result (λ ran. ran ≡ is_some (items_under parts.now (Some (tree_of model.old)))) }
-    ensures changed { OnOk result (tree_of model.new ≡ changed_at parts.now (changed_by command.now) (tree_of model.old)) }
+    ensures told { IfOk result
+        (λ ran. ran ≡ is_some (items_under parts.now (Some (tree_of model.old)))) }
+    ensures changed { OnOk result
+        (tree_of model.new ≡ changed_at parts.now (changed_by command.now) (tree_of model.old)) }
 {
     match parts {
         [] => change_list(alloc, command, model),
@@ -51,8 +54,12 @@ fn change_inside(
     command: &Command,
     model: &mut Data,
 ) -> Result<bool, OutOfMemory>
-    ensures told { IfOk result (λ ran. ran ≡ is_some (items_under rest.now (named part.now (tree_of model.old)))) }
-    ensures changed { OnOk result (tree_of model.new ≡ change_named part.now (changed_at rest.now (changed_by command.now)) (tree_of model.old)) }
+    ensures told { IfOk result
+        (λ ran. ran ≡ is_some (items_under rest.now (named part.now (tree_of model.old)))) }
+    ensures changed { OnOk result
+        (tree_of model.new
+        ≡ change_named part.now (changed_at rest.now (changed_by command.now))
+        (tree_of model.old)) }
 {
     if let Some(members) = members_of(model) {
         return change_in_map(alloc, part, rest, command, members);
@@ -71,8 +78,13 @@ fn change_in_map(
     command: &Command,
     model: &mut Members,
 ) -> Result<bool, OutOfMemory>
-    ensures told { IfOk result (λ ran. ran ≡ is_some (items_under rest.now (member part.now (entries_of model.old.pairs)))) }
-    ensures changed { OnOk result (entries_of model.new.pairs ≡ change_member part.now (changed_at rest.now (changed_by command.now)) (entries_of model.old.pairs)) }
+    ensures told { IfOk result
+        (λ ran. ran
+        ≡ is_some (items_under rest.now (member part.now (entries_of model.old.pairs)))) }
+    ensures changed { OnOk result
+        (entries_of model.new.pairs
+        ≡ change_member part.now (changed_at rest.now (changed_by command.now))
+        (entries_of model.old.pairs)) }
 {
     match model.place_of(part.as_str()) {
         Some(at) => change_at(alloc, rest, command, model.value_mut(at)),
@@ -88,8 +100,12 @@ fn change_in_list(
     command: &Command,
     model: &mut Items,
 ) -> Result<bool, OutOfMemory>
-    ensures told { IfOk result (λ ran. ran ≡ is_some (items_under rest.now (numbered 0 part.now (trees_of model.old)))) }
-    ensures changed { OnOk result (trees_of model.new ≡ change_numbered 0 part.now (changed_at rest.now (changed_by command.now)) (trees_of model.old)) }
+    ensures told { IfOk result
+        (λ ran. ran ≡ is_some (items_under rest.now (numbered 0 part.now (trees_of model.old)))) }
+    ensures changed { OnOk result
+        (trees_of model.new
+        ≡ change_numbered 0 part.now (changed_at rest.now (changed_by command.now))
+        (trees_of model.old)) }
 {
     match index_below(model.len(), part.as_str()) {
         Some(at) => change_at(alloc, rest, command, model.get_mut(at)),

@@ -1,7 +1,8 @@
 ghost use Rattle.std.specs.Prelude.{◌≡◌, ◌<◌, ◌^◌, ℕ, IfSome, IfNone, decimal};
 ghost use Rattle.std.specs.Str.{chars};
 
-/// The index below `count` that is written so in decimal digits, with no sign and no zero before them. Takes no memory.
+/// The index below `count` that is written so in decimal digits, with no sign and no zero before
+/// them. Takes no memory.
 pub fn index_below(count: usize, name: &str) -> Option<usize>
     ensures below { IfSome result (λ at. at < count) }
     ensures written { IfSome result (λ at. decimal at ≡ chars name.now) }

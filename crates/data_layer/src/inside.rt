@@ -37,7 +37,8 @@ pub fn members_of(value: &mut Data) -> Option<&mut Members>
 
 /// The text that a value is, to be changed in it, or `None` of any other value.
 pub fn text_of(value: &mut Data) -> Option<&mut Text>
-    ensures* writes_back { sem 𝓛 (LendsIf the_row text_row value.entry result variants.Text value.old) }
+    ensures* writes_back { sem 𝓛
+        (LendsIf the_row text_row value.entry result variants.Text value.old) }
     ensures text { IfSome result (λ text. value.old ≡ variants.Text text.now) }
 {
     if let Data::Text(text) = value {

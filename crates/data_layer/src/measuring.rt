@@ -5,27 +5,30 @@ ghost use Rattle.gtm_data.specs.Tree.{tree_of, trees_of, entries_of, items_depth
 ghost use Rattle.gtm_data.specs.Tree as spec;
 ghost use Rattle.data_layer.specs.Layer.{is_too_deep};
 
-use gtm_data::{Data, Items, Members};
+use gtm_data::{Data, Items, MAX_DEPTH, Members};
 
-/// Whether the parts of some member's key and the depth of its value are over 64 together. Takes no memory.
+/// Whether the parts of some member's key and the depth of its value are over `MAX_DEPTH` together.
+/// Takes no memory.
 pub fn is_too_deep(members: &Members) -> bool
     ensures { result ≡ is_too_deep (entries_of members.now.pairs) }
 {
     for member in members.as_slice() {
-        if levels(member.0.as_str(), &member.1) > 64 {
+        if levels(member.0.as_str(), &member.1) > MAX_DEPTH {
             return true;
         }
     }
     false
 }
 
-// Over 64 where the parts of the key and the depth of the value are together, and else not.
+// Over `MAX_DEPTH` where the parts of the key and the depth of the value are together, and else
+// not.
 fn levels(key: &str, value: &Data) -> usize
-    ensures { nat_lt 64 result ≡ nat_lt 64 (length (dotted (chars key.now)) + spec.depth (tree_of value.now)) }
+    ensures { nat_lt MAX_DEPTH result
+        ≡ nat_lt MAX_DEPTH (length (dotted (chars key.now)) + spec.depth (tree_of value.now)) }
 {
-    let depth = usize::from(depth(value));
+    let depth = depth(value);
     // A key has at most one part more than it has bytes.
-    if key.len().saturating_add(depth) < 64 {
+    if key.len().saturating_add(depth) < MAX_DEPTH {
         return depth;
     }
     part_count(key).saturating_add(depth)
@@ -37,11 +40,11 @@ fn part_count(key: &str) -> usize
     key.split('.').count()
 }
 
-/// The depth of a value, or 65 for all that is deeper.
+/// The depth of a value, or `MAX_DEPTH + 1` for all that is deeper.
 #[cycle(depth)]
 #[tactic(auto, unfolding(gtm_data::specs::Tree::depth))]
-pub fn depth(value: &Data) -> u8
-    ensures { result ≡ min 65 (spec.depth (tree_of value.now)) }
+pub fn depth(value: &Data) -> usize
+    ensures { result ≡ min (MAX_DEPTH + 1) (spec.depth (tree_of value.now)) }
 {
     match value {
         Data::List(items) => one_more(items_depth(items)),
@@ -52,8 +55,8 @@ pub fn depth(value: &Data) -> u8
 
 #[cycle(depth)]
 #[tactic(auto, unfolding(gtm_data::specs::Tree::depth))]
-fn items_depth(items: &Items) -> u8
-    ensures { result ≡ min 65 (items_depth (trees_of items.now)) }
+fn items_depth(items: &Items) -> usize
+    ensures { result ≡ min (MAX_DEPTH + 1) (items_depth (trees_of items.now)) }
 {
     let mut greatest = 0;
     for item in items.as_slice() {
@@ -64,8 +67,8 @@ fn items_depth(items: &Items) -> u8
 
 #[cycle(depth)]
 #[tactic(auto, unfolding(gtm_data::specs::Tree::depth))]
-fn members_depth(members: &Members) -> u8
-    ensures { result ≡ min 65 (members_depth (entries_of members.now.pairs)) }
+fn members_depth(members: &Members) -> usize
+    ensures { result ≡ min (MAX_DEPTH + 1) (members_depth (entries_of members.now.pairs)) }
 {
     let mut greatest = 0;
     for member in members.as_slice() {
@@ -74,8 +77,8 @@ fn members_depth(members: &Members) -> u8
     greatest
 }
 
-fn one_more(count: u8) -> u8
-    ensures { result ≡ min 65 (count + 1) }
+fn one_more(count: usize) -> usize
+    ensures { result ≡ min (MAX_DEPTH + 1) (count + 1) }
 {
-    if count < 65 { count + 1 } else { 65 }
+    count.min(MAX_DEPTH) + 1
 }

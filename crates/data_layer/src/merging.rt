@@ -9,7 +9,8 @@ use gtm_base::{OutOfMemory, Text};
 use gtm_data::{Data, Items, Members, copy};
 use std::alloc::Global;
 
-/// Merges the value into the model: Lists by index, Maps by key, and all else overwrites. Where memory is wanting, the model is left half merged.
+/// Merges the value into the model: Lists by index, Maps by key, and all else overwrites. Where
+/// memory is wanting, the model is left half merged.
 #[cycle(merge)]
 #[tactic(auto, unfolding(crate::specs::Merge::merge))]
 pub fn merge(alloc: Global, value: &Data, model: &mut Data) -> Result<(), OutOfMemory>
@@ -50,7 +51,8 @@ fn replace(alloc: Global, value: &Data, model: &mut Data) -> Result<(), OutOfMem
 
 #[cycle(merge)]
 fn merge_items(alloc: Global, items: &Items, model: &mut Items) -> Result<(), OutOfMemory>
-    ensures { OnOk result (trees_of model.new ≡ spec.merge_items (trees_of items.now) (trees_of model.old)) }
+    ensures { OnOk result
+        (trees_of model.new ≡ spec.merge_items (trees_of items.now) (trees_of model.old)) }
 {
     for (at, item) in items.as_slice().iter().enumerate() {
         merge_item(alloc, at, item, model)?;
@@ -62,7 +64,9 @@ fn merge_items(alloc: Global, items: &Items, model: &mut Items) -> Result<(), Ou
 #[cycle(merge)]
 fn merge_item(alloc: Global, at: usize, item: &Data, model: &mut Items) -> Result<(), OutOfMemory>
     requires { at ≤ length model.old }
-    ensures merged { OnOk result (trees_of model.new ≡ on_item at (spec.merge (tree_of item.now)) (tree_of item.now) (trees_of model.old)) }
+    ensures merged { OnOk result
+        (trees_of model.new
+        ≡ on_item at (spec.merge (tree_of item.now)) (tree_of item.now) (trees_of model.old)) }
     ensures within { OnOk result (at < length model.new) }
 {
     if at < model.len() {
@@ -74,7 +78,9 @@ fn merge_item(alloc: Global, at: usize, item: &Data, model: &mut Items) -> Resul
 
 #[cycle(merge)]
 fn merge_members(alloc: Global, members: &Members, model: &mut Members) -> Result<(), OutOfMemory>
-    ensures { OnOk result (entries_of model.new.pairs ≡ spec.merge_members (entries_of members.now.pairs) (entries_of model.old.pairs)) }
+    ensures { OnOk result
+        (entries_of model.new.pairs
+        ≡ spec.merge_members (entries_of members.now.pairs) (entries_of model.old.pairs)) }
 {
     for member in members.as_slice() {
         merge_member(alloc, member.0.as_str(), &member.1, model)?;
@@ -90,7 +96,10 @@ pub fn merge_member(
     value: &Data,
     model: &mut Members,
 ) -> Result<(), OutOfMemory>
-    ensures { OnOk result (entries_of model.new.pairs ≡ put (chars key.now) (spec.merge (tree_of value.now)) (tree_of value.now) (entries_of model.old.pairs)) }
+    ensures { OnOk result
+        (entries_of model.new.pairs
+        ≡ put (chars key.now) (spec.merge (tree_of value.now)) (tree_of value.now)
+        (entries_of model.old.pairs)) }
 {
     match model.place_of(key) {
         Some(at) => merge(alloc, value, model.value_mut(at)),

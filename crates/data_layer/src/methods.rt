@@ -7,7 +7,8 @@ use gtm_base::OutOfMemory;
 use gtm_data::{Data, Items, copy};
 use std::alloc::Global;
 
-/// Does to a List what a method does with these items. Where memory is wanting, the List is left half changed.
+/// Does to a List what a method does with these items. Where memory is wanting, the List is left
+/// half changed.
 #[tactic(auto, using(crate::proofs::AfterMethods::trees_after_methods))]
 pub fn run_method(
     alloc: Global,
@@ -15,7 +16,9 @@ pub fn run_method(
     items: &[Data],
     list: &mut Items,
 ) -> Result<(), OutOfMemory>
-    ensures { OnOk result (map tree_of list.new ≡ after_method method (map tree_of items.now) (map tree_of list.old)) }
+    ensures { OnOk result
+        (map tree_of list.new
+        ≡ after_method method (map tree_of items.now) (map tree_of list.old)) }
 {
     match method {
         Method::Push => push_all(alloc, items, list)?,
@@ -37,7 +40,8 @@ fn push_all(alloc: Global, items: &[Data], list: &mut Items) -> Result<(), OutOf
     Ok(())
 }
 
-// Puts a copy of each item before the first, in order. The old ones are turned round twice, and not moved up once for each new one.
+// Puts a copy of each item before the first, in order. The old ones are turned round twice, and not
+// moved up once for each new one.
 fn unshift_all(alloc: Global, items: &[Data], list: &mut Items) -> Result<(), OutOfMemory>
     ensures { OnOk result (list.new ≡ items.now ++ list.old) }
 {

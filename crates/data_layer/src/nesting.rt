@@ -10,7 +10,8 @@ use std::alloc::Global;
 
 /// A copy of the value, nested in Maps under the parts of the key.
 pub fn nested(alloc: Global, key: &str, value: &Data) -> Result<Data, OutOfMemory>
-    ensures { IfOk result (λ made. tree_of made ≡ nest (dotted (chars key.now)) (tree_of value.now)) }
+    ensures { IfOk result
+        (λ made. tree_of made ≡ nest (dotted (chars key.now)) (tree_of value.now)) }
 {
     let mut parts = parts(alloc, key)?;
     let mut made = copy(alloc, value)?;

@@ -11,7 +11,8 @@ use gtm_base::{OutOfMemory, Text};
 use gtm_data::{Data, Members, copy};
 use std::alloc::Global;
 
-/// Takes a message into the model and the values of version 1, and answers whether it was not ignored. Where memory is wanting, both are left half changed.
+/// Takes a message into the model and the values of version 1, and answers whether it was not
+/// ignored. Where memory is wanting, both are left half changed.
 pub fn take(
     alloc: Global,
     message: &Data,
@@ -19,7 +20,10 @@ pub fn take(
     version_one: &mut Members,
 ) -> Result<bool, OutOfMemory>
     ensures told { IfOk result (λ took. took ≡ not (is_ignored (tree_of message.now))) }
-    ensures taken { OnOk result (record { model = tree_of model.new; version_one = entries_of version_one.new.pairs } ≡ spec.after_message (tree_of message.now) (record { model = tree_of model.old; version_one = entries_of version_one.old.pairs })) }
+    ensures taken { OnOk result
+        (record { model = tree_of model.new; version_one = entries_of version_one.new.pairs }
+        ≡ spec.after_message (tree_of message.now)
+        (record { model = tree_of model.old; version_one = entries_of version_one.old.pairs })) }
 {
     let Data::Map(members) = message else {
         return Ok(false);
@@ -37,8 +41,11 @@ fn take_members(
     model: &mut Data,
     version_one: &mut Members,
 ) -> Result<(), OutOfMemory>
-    ensures merged { OnOk result (tree_of model.new ≡ after_members (entries_of members.now.pairs) (tree_of model.old)) }
-    ensures put { OnOk result (entries_of version_one.new.pairs ≡ version_one_after (entries_of members.now.pairs) (entries_of version_one.old.pairs)) }
+    ensures merged { OnOk result
+        (tree_of model.new ≡ after_members (entries_of members.now.pairs) (tree_of model.old)) }
+    ensures put { OnOk result
+        (entries_of version_one.new.pairs
+        ≡ version_one_after (entries_of members.now.pairs) (entries_of version_one.old.pairs)) }
 {
     for member in members.as_slice() {
         merge_under(alloc, member.0.as_str(), &member.1, model)?;
@@ -54,7 +61,10 @@ fn put_value(
     value: &Data,
     values: &mut Members,
 ) -> Result<(), OutOfMemory>
-    ensures { OnOk result (entries_of values.new.pairs ≡ merges.put key.now (λ _. tree_of value.now) (tree_of value.now) (entries_of values.old.pairs)) }
+    ensures { OnOk result
+        (entries_of values.new.pairs
+        ≡ merges.put key.now (λ _. tree_of value.now) (tree_of value.now)
+        (entries_of values.old.pairs)) }
 {
     match values.place_of(key.as_str()) {
         Some(at) => overwrite(alloc, value, values.value_mut(at)),

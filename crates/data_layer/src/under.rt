@@ -13,7 +13,8 @@ use gtm_data::{Data, Members};
 use memchr::memchr;
 use std::alloc::Global;
 
-/// Merges a value under the parts of a key, as if it were nested in Maps under them. Where memory is wanting, the model is left half merged.
+/// Merges a value under the parts of a key, as if it were nested in Maps under them. Where memory
+/// is wanting, the model is left half merged.
 #[cycle(under)]
 pub fn merge_under(
     alloc: Global,
@@ -21,7 +22,9 @@ pub fn merge_under(
     value: &Data,
     model: &mut Data,
 ) -> Result<(), OutOfMemory>
-    ensures { OnOk result (tree_of model.new ≡ merge (nest (dotted (chars key.now)) (tree_of value.now)) (tree_of model.old)) }
+    ensures { OnOk result
+        (tree_of model.new
+        ≡ merge (nest (dotted (chars key.now)) (tree_of value.now)) (tree_of model.old)) }
 {
     match members_of(model) {
         Some(members) => merge_within(alloc, key, value, members),
@@ -44,7 +47,10 @@ fn merge_within(
     value: &Data,
     model: &mut Members,
 ) -> Result<(), OutOfMemory>
-    ensures { OnOk result (object (entries_of model.new.pairs) ≡ merge (nest (dotted (chars key.now)) (tree_of value.now)) (object (entries_of model.old.pairs))) }
+    ensures { OnOk result
+        (object (entries_of model.new.pairs)
+        ≡ merge (nest (dotted (chars key.now)) (tree_of value.now))
+        (object (entries_of model.old.pairs))) }
 {
     match cut(key) {
         Some((part, rest)) => merge_below(alloc, part, rest, value, model),
@@ -52,7 +58,8 @@ fn merge_within(
     }
 }
 
-// Merges a value into the one at a part, under the rest of the key, or puts it last, nested under the rest.
+// Merges a value into the one at a part, under the rest of the key, or puts it last, nested under
+// the rest.
 #[cycle(under)]
 fn merge_below(
     alloc: Global,
@@ -61,7 +68,10 @@ fn merge_below(
     value: &Data,
     model: &mut Members,
 ) -> Result<(), OutOfMemory>
-    ensures { let inner = nest (dotted (chars rest.now)) (tree_of value.now) in OnOk result (entries_of model.new.pairs ≡ put (chars part.now) (merge inner) inner (entries_of model.old.pairs)) }
+    ensures { let inner = nest (dotted (chars rest.now)) (tree_of value.now) in
+        OnOk result
+        (entries_of model.new.pairs
+        ≡ put (chars part.now) (merge inner) inner (entries_of model.old.pairs)) }
 {
     match model.place_of(part) {
         Some(at) => merge_under(alloc, rest, value, model.value_mut(at)),
@@ -71,7 +81,8 @@ fn merge_below(
 
 // The first part of a key and the text of the others, if there are others.
 fn cut(key: &str) -> Option<(&str, &str)>
-    ensures parts { IfSome result (λ found. dotted (chars key.now) ≡ chars found.0.now ∷ dotted (chars found.1.now)) }
+    ensures parts { IfSome result
+        (λ found. dotted (chars key.now) ≡ chars found.0.now ∷ dotted (chars found.1.now)) }
     ensures shorter { IfSome result (λ found. length found.1.now < length key.now) }
     ensures last { IfNone result (dotted (chars key.now) ≡ chars key.now ∷ []) }
 {

@@ -1,18 +1,26 @@
 -- A container without templates uses none.
-use Rattle.std.proofs.Common.{◌≡◌, ◌<◌, ℕ, List, [], ◌∷◌, length, Option, Some, None, refl, subst, arith}
+use Rattle.std.proofs.Common.{◌≡◌, ◌<◌, ℕ, List, [], ◌∷◌, length, Option, Some, None, refl, subst}
+use Rattle.std.proofs.Common.{arith}
 use Rattle.std.specs.Prelude.{codes}
 use Rattle.std.proofs.lemmas.List.Elements.{All-weaker}
 use Rattle.export_fields.specs.Fault.{◌then◌}
-use Rattle.export_model.specs.Sound.{IsTagKindIn, IsVariableKindIn, IsTagIn, IsVariableIn, InRange, FitsTag, FitsVariable, FitsTemplates, IsConsistent, Sound}
+use Rattle.export_model.specs.Sound.{IsTagKindIn, IsVariableKindIn, IsTagIn, IsVariableIn, InRange}
+use Rattle.export_model.specs.Sound.{FitsTag, FitsVariable, FitsTemplates, IsConsistent, Sound}
 use Rattle.export_model.specs.declared.container.Container.{Container}
 use Rattle.export_model.specs.declared.tags.TagKind.{TagKind}
 use Rattle.export_model.specs.declared.tags.TagKind.TheVariants as tag_kind
 use Rattle.export_model.specs.declared.variables.VariableKind.{VariableKind}
-use Rattle.export_model.specs.declared.variables.VariableKind.TheVariants.{Layer, Constant, Cookie, Global, Url, Referrer, EventName, Lookup, RegexTable, Template, Unknown}
+use Rattle.export_model.specs.declared.variables.VariableKind.TheVariants.{Layer, Constant, Cookie}
+use Rattle.export_model.specs.declared.variables.VariableKind.TheVariants.{Global, Url, Referrer}
+use Rattle.export_model.specs.declared.variables.VariableKind.TheVariants.{EventName, Lookup}
+use Rattle.export_model.specs.declared.variables.VariableKind.TheVariants.{RegexTable, Template}
+use Rattle.export_model.specs.declared.variables.VariableKind.TheVariants.{Unknown}
 use Rattle.export_reader.specs.Rules.{first_entry, not_built}
 
 no_place : (c : Container) → c.templates ≡ [] → (at : ℕ) → at < length c.templates → ⊥
-no_place c none at lower = let within : at < 0 = subst (λ templates. at < length templates) none lower in absurd (omega (arith, within))
+no_place c none at lower =
+    let within : at < 0 = subst (λ templates. at < length templates) none lower in
+    absurd (omega (arith, within))
 
 module _ (c : Container) (none : c.templates ≡ []) where
   tag_kind_fits : (kind : TagKind) → IsTagKindIn c kind → FitsTag c kind
@@ -34,8 +42,12 @@ module _ (c : Container) (none : c.templates ≡ []) where
 
   fits : InRange c → FitsTemplates c
   fits there = record {
-    tags = All-weaker (IsTagIn c) (λ tag. FitsTag c tag.kind) (λ tag is. tag_kind_fits tag.kind is.kind) c.tags there.tags;
-    variables = All-weaker (IsVariableIn c) (λ variable. FitsVariable c variable.kind) (λ variable is. variable_kind_fits variable.kind is.kind) c.variables there.variables;
+    tags =
+        All-weaker (IsTagIn c) (λ tag. FitsTag c tag.kind)
+        (λ tag is. tag_kind_fits tag.kind is.kind) c.tags there.tags;
+    variables =
+        All-weaker (IsVariableIn c) (λ variable. FitsVariable c variable.kind)
+        (λ variable is. variable_kind_fits variable.kind is.kind) c.variables there.variables;
   }
 
 none_first : (found later : Option (List ℕ)) → None ≡ (found then later) → None ≡ later
@@ -57,7 +69,8 @@ no_templates c is =
     empty (codes "customTemplate") c.templates
     (none_first built_ins templates
     (none_first variables (built_ins then templates)
-    (none_first triggers (variables then built_ins then templates) (none_first tags (triggers then variables then built_ins then templates) is))))
+    (none_first triggers (variables then built_ins then templates)
+    (none_first tags (triggers then variables then built_ins then templates) is))))
 
 -- a consistent container that has nothing which is not built is sound
 pub sound : (c : Container) → IsConsistent c → None ≡ not_built c → Sound c

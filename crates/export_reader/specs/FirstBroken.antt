@@ -1,5 +1,6 @@
 -- The first broken rule of an export.
-use Rattle.std.specs.Prelude.{◌≡◌, ℕ, List, [], ◌∷◌, ◌++◌, Option, Some, None, option_map, option_and_then, slice_get, Result, Ok, Err}
+use Rattle.std.specs.Prelude.{◌≡◌, ℕ, List, [], ◌∷◌, ◌++◌, Option, Some, None, option_map}
+use Rattle.std.specs.Prelude.{option_and_then, slice_get, Result, Ok, Err}
 use Rattle.std.specs.List.{filter_map}
 use Rattle.std.specs.Option.{option_map_or}
 use Rattle.serde_json.specs.Data as json
@@ -10,7 +11,10 @@ use Rattle.export_entries.specs.declared.entries.WrittenEntries.{WrittenEntries}
 use Rattle.export_model.specs.declared.container.Container.{Container}
 use Rattle.export_numbers.specs.Container.{container_of}
 use Rattle.export_reader.specs.Container.{container_in}
-use Rattle.export_reader.specs.Rules.{too_large, not_json, other_format, version_in, no_version, not_web, field_kind, duplicate_id, duplicate_name, unknown_trigger, unknown_sequence_tag, unknown_template, variable_cycle, group_cycle, priority_text, not_built}
+use Rattle.export_reader.specs.Rules.{too_large, not_json, other_format, version_in, no_version}
+use Rattle.export_reader.specs.Rules.{not_web, field_kind, duplicate_id, duplicate_name}
+use Rattle.export_reader.specs.Rules.{unknown_trigger, unknown_sequence_tag, unknown_template}
+use Rattle.export_reader.specs.Rules.{variable_cycle, group_cycle, priority_text, not_built}
 use Rattle.export_reader.specs.declared.top.ExportEnd.{ExportEnd}
 use Rattle.export_reader.specs.declared.top.ExportEnd.TheVariants.{OutOfMemory, Refused}
 
@@ -36,11 +40,13 @@ reference_rules written =
 
 -- the rules of entries
 unfoldable pub entries_rules : WrittenEntries → List Rule
-entries_rules written = (9, duplicate_id written) ∷ (10, duplicate_name written) ∷ reference_rules written
+entries_rules written =
+    (9, duplicate_id written) ∷ (10, duplicate_name written) ∷ reference_rules written
 
 -- the rules of a container version
 unfoldable pub version_rules : json.Data → List Rule
-version_rules version = (7, not_web version) ∷ (8, field_kind version) ∷ entries_rules (entries_of version)
+version_rules version =
+    (7, not_web version) ∷ (8, field_kind version) ∷ entries_rules (entries_of version)
 
 -- the rules of an export's JSON tree
 unfoldable pub tree_rules : json.Data → List Rule
@@ -53,7 +59,9 @@ tree_rules d =
 
 -- the rules of an export's bytes
 unfoldable pub rules_of : List ℕ → List Rule
-rules_of bytes = (1, too_large bytes) ∷ (2, not_json (json_of bytes)) ∷ option_map_or tree_rules (json_of bytes) []
+rules_of bytes =
+    (1, too_large bytes) ∷ (2, not_json (json_of bytes))
+    ∷ option_map_or tree_rules (json_of bytes) []
 
 -- the same, and behind them what is not built yet
 unfoldable pub export_rules : List ℕ → List Rule

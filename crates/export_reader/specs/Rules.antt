@@ -1,5 +1,7 @@
 -- The rules of an export, each by itself: the path at which it is first broken, if it is.
-use Rattle.std.specs.Prelude.{ℕ, List, [], ◌∷◌, length, map, Bool, false, Option, Some, None, option_map, option_and_then, is_some, codes, nat_lt, ◌==◌, ◌||◌, if◌then◌else◌}
+use Rattle.std.specs.Prelude.{ℕ, List, [], ◌∷◌, length, map, Bool, false, Option, Some, None}
+use Rattle.std.specs.Prelude.{option_map, option_and_then, is_some, codes, nat_lt, ◌==◌, ◌||◌}
+use Rattle.std.specs.Prelude.{if◌then◌else◌}
 use Rattle.std.specs.Option.{option_map_or}
 use Rattle.std.specs.Str.{bytes_eq, chars}
 use Rattle.serde_json.specs.Data as json
@@ -11,15 +13,16 @@ use Rattle.export_entries.specs.Entries.{entries_fault}
 use Rattle.export_entries.specs.declared.entries.WrittenEntries.{WrittenEntries}
 use Rattle.export_model.specs.Graphs.{variable_graph, group_graph}
 use Rattle.export_model.specs.declared.container.Container.{Container}
+use Rattle.export_reader.specs.declared.top.TheConstants.{MAX_EXPORT}
 use Rattle.export_references.specs.Priorities as priorities
 use Rattle.export_references.specs.UnknownTags as tags
 use Rattle.export_references.specs.UnknownTriggers as triggers
 use Rattle.export_references.specs.UnknownTypes as types
 use Rattle.reference_cycles.specs.Closure.{first_cycle}
 
--- rule 1: it has over 8,388,608 bytes
+-- rule 1: it has over `MAX_EXPORT` bytes
 abbrev pub too_large : List ℕ → Option (List ℕ)
-too_large bytes = if nat_lt 8388608 (length bytes) then Some [] else None
+too_large bytes = if nat_lt MAX_EXPORT (length bytes) then Some [] else None
 
 -- rule 2: it is no JSON text in UTF-8
 abbrev pub not_json : Option json.Data → Option (List ℕ)
@@ -33,7 +36,10 @@ is_two (Some number) = number == 2
 
 -- rule 5: its format is not the number 2
 abbrev pub other_format : json.Data → Option (List ℕ)
-other_format d = if is_two (option_and_then as_u64 (option_and_then as_number (get (codes "exportFormatVersion") d))) then None else Some (in_key (codes "exportFormatVersion") [])
+other_format d =
+    if is_two (option_and_then as_u64
+    (option_and_then as_number (get (codes "exportFormatVersion") d))) then None else Some (in_key
+    (codes "exportFormatVersion") [])
 
 -- the same value, where it is an object
 abbrev pub only_object : json.Data → Option json.Data
@@ -67,11 +73,15 @@ context_of version = option_and_then (get (codes "usageContext")) (get (codes "c
 
 -- the path of what the container is used in
 abbrev pub context_path : List ℕ
-context_path = in_key (codes "containerVersion") (in_key (codes "container") (in_key (codes "usageContext") []))
+context_path =
+    in_key (codes "containerVersion")
+    (in_key (codes "container") (in_key (codes "usageContext") []))
 
 -- rule 7: the container says what it is used in, and web is not among that
 abbrev pub not_web : json.Data → Option (List ℕ)
-not_web version = option_map_or (λ context. if lists_web context then None else Some context_path) (context_of version) None
+not_web version =
+    option_map_or (λ context. if lists_web context then None else Some context_path)
+    (context_of version) None
 
 -- rule 8: a field has another kind than it needs
 abbrev pub field_kind : json.Data → Option (List ℕ)

@@ -1,7 +1,8 @@
 ghost use Rattle.std.specs.Prelude.{◌≡◌, Some, None, IfOk, codes};
 ghost use Rattle.export_model.specs.Sound.{IsConsistent};
 ghost use Rattle.export_numbers.specs.Container.{container_of};
-ghost use Rattle.export_reader.specs.FirstBroken.{entries_rules, reference_rules, container_rules, Judges};
+ghost use Rattle.export_reader.specs.FirstBroken.{entries_rules, reference_rules, container_rules};
+ghost use Rattle.export_reader.specs.FirstBroken.{Judges};
 ghost use Rattle.export_reader.specs.Rules as rules;
 
 use crate::cycles::{group_cycle, variable_cycle};
@@ -51,7 +52,8 @@ fn judge_references(alloc: Global, written: &WrittenEntries) -> Result<Container
 // The container of entries, or the first of the rules from 16 on that it breaks.
 #[tactic(auto, unfolding(crate::specs::FirstBroken::container_rules))]
 fn judge_container(alloc: Global, written: &WrittenEntries) -> Result<Container, ExportEnd>
-    ensures judged { Judges result (container_rules written.now (container_of written.now)) (Some (container_of written.now)) }
+    ensures judged { Judges result (container_rules written.now (container_of written.now))
+        (Some (container_of written.now)) }
     ensures consistent { IfOk result IsConsistent }
 {
     let container = container_of(alloc, written)?;

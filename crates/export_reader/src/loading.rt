@@ -15,7 +15,8 @@ pub struct Loaded {
     pub container: Container,
 }
 
-/// The container of an export's bytes. `Refused` comes exactly where a rule is broken, and names the least one and its first path.
+/// The container of an export's bytes. `Refused` comes exactly where a rule is broken, and names
+/// the least one and its first path.
 #[tactic(auto, unfolding(crate::specs::FirstBroken::export_rules))]
 pub fn read_export(alloc: Global, bytes: &[u8]) -> Result<Loaded, ExportEnd>
     ensures ok { OnOk result (first_broken bytes.now ≡ None) }

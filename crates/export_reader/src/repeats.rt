@@ -34,7 +34,8 @@ pub fn duplicate_id(alloc: Global, written: &WrittenEntries) -> Result<Option<Te
     Ok(template)
 }
 
-/// The path of the first tag that has the name of an earlier tag, else of the first variable that has the name of an earlier variable.
+/// The path of the first tag that has the name of an earlier tag, else of the first variable that
+/// has the name of an earlier variable.
 #[tactic(auto, unfolding(crate::specs::Rules::duplicate_name))]
 pub fn duplicate_name(alloc: Global, written: &WrittenEntries) -> Result<Option<Text>, OutOfMemory>
     ensures { IfOk result (λ found. found ≡ rules.duplicate_name written.now) }

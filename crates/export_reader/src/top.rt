@@ -17,7 +17,8 @@ pub const MAX_EXPORT: usize = 8_388_608;
 pub enum ExportEnd {
     /// Memory was wanting.
     OutOfMemory,
-    /// The export breaks this rule, first at this path, a JSON pointer. It breaks no rule of a smaller number.
+    /// The export breaks this rule, first at this path, a JSON pointer. It breaks no rule of a
+    /// smaller number.
     Refused { rule: u8, path: Text },
 }
 
@@ -31,7 +32,8 @@ impl From<OutOfMemory> for ExportEnd {
     }
 }
 
-/// The container of an export's bytes, with all that is not run yet. `Refused` comes exactly where a rule but the last is broken, and names the least one and its first path.
+/// The container of an export's bytes, with all that is not run yet. `Refused` comes exactly where
+/// a rule but the last is broken, and names the least one and its first path.
 #[tactic(auto, unfolding(crate::specs::FirstBroken::rules_of))]
 pub fn read_container(alloc: Global, bytes: &[u8]) -> Result<Container, ExportEnd>
     ensures ok { OnOk result (first_of (rules_of bytes.now) ≡ None) }

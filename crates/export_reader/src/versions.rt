@@ -20,7 +20,8 @@ use std::alloc::Global;
 /// The container of an export's tree, or the first of the rules from 3 on that it breaks.
 #[tactic(auto, unfolding(crate::specs::FirstBroken::tree_rules))]
 pub fn judge_tree(alloc: Global, tree: &Value) -> Result<Container, ExportEnd>
-    ensures judged { Judges result (tree_rules (view tree.now)) (option_map container_at (rules.version_in (view tree.now))) }
+    ensures judged { Judges result (tree_rules (view tree.now))
+        (option_map container_at (rules.version_in (view tree.now))) }
     ensures consistent { IfOk result IsConsistent }
 {
     match check_json(alloc, tree) {
@@ -50,7 +51,8 @@ fn field_path(alloc: Global, key: &str) -> Result<Text, OutOfMemory>
 }
 
 fn is_format_two(tree: &Value) -> bool
-    ensures { (if result then None else Some (in_key (codes "exportFormatVersion") [])) ≡ rules.other_format (view tree.now) }
+    ensures { (if result then None else Some (in_key (codes "exportFormatVersion") []))
+        ≡ rules.other_format (view tree.now) }
 {
     match tree.get("exportFormatVersion").and_then(Value::as_u64) {
         Some(number) => number == 2,
@@ -71,7 +73,8 @@ fn version_in(tree: &Value) -> Option<&Value>
 // The container of a container version, or the first of the rules from 7 on that it breaks.
 #[tactic(auto, unfolding(crate::specs::FirstBroken::version_rules))]
 fn judge_version(alloc: Global, version: &Value) -> Result<Container, ExportEnd>
-    ensures judged { Judges result (version_rules (view version.now)) (Some (container_at (view version.now))) }
+    ensures judged { Judges result (version_rules (view version.now))
+        (Some (container_at (view version.now))) }
     ensures consistent { IfOk result IsConsistent }
 {
     if let Some(path) = not_web(alloc, version)? {

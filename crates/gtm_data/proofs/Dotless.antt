@@ -1,5 +1,6 @@
 -- The parts of a dotted text: they have no dot, and joined by dots they are the text.
-use Rattle.std.proofs.Common.{◌≡◌, ◌≢◌, ℕ, zero, suc, ◌<◌, List, [], ◌∷◌, length, eqb, Bool, true, false, if◌then◌else◌, refl, ap, ◌∙◌, arith}
+use Rattle.std.proofs.Common.{◌≡◌, ◌≢◌, ℕ, zero, suc, ◌<◌, List, [], ◌∷◌, length, eqb, Bool, true}
+use Rattle.std.proofs.Common.{false, if◌then◌else◌, refl, ap, ◌∙◌, arith}
 use Rattle.std.specs.Prelude.{All, Contains, slice_index_or}
 use Rattle.std.specs.List.{join_with_byte, slice_split}
 use Rattle.std.specs.Str.{NonePass}
@@ -18,15 +19,22 @@ joined-dotted cs = ap (join_with_byte 46) (dotted-slice_split cs) ∙ join_with_
 abbrev Dotless : List ℕ → Type 0
 Dotless part = Contains part 46 → ⊥
 
-no_dot_first : (c : ℕ) (part : List ℕ) → (c ≡ 46 → ⊥) → Dotless part → (place : ℕ) → place < length (c ∷ part) → slice_index_or (c ∷ part) place 46 ≡ 46 → ⊥
+no_dot_first : (c : ℕ) (part : List ℕ) → (c ≡ 46 → ⊥) → Dotless part → (place : ℕ)
+    → place < length (c ∷ part) → slice_index_or (c ∷ part) place 46 ≡ 46 → ⊥
 no_dot_first c part other rest zero within is = other is
 no_dot_first c part other rest (suc place) within is = rest (place, omega arith, is)
 
-parts_at : (b : Bool) (c : ℕ) (parts : List (List ℕ)) → eqb c 46 ≡ b → All Dotless parts → All Dotless (if b then [] ∷ parts else onto_first c parts)
+parts_at : (b : Bool) (c : ℕ) (parts : List (List ℕ)) → eqb c 46 ≡ b → All Dotless parts
+    → All Dotless (if b then [] ∷ parts else onto_first c parts)
 parts_at true c parts e none = All-cons Dotless [] parts (λ has. absurd (omega (arith, has.1))) none
-parts_at false c [] e none = All-cons Dotless (c ∷ []) [] (λ has. no_dot_first c [] (eqb-false c 46 e) (λ it. absurd (omega (arith, it.1))) has.0 has.1 has.2) none
+parts_at false c [] e none =
+    All-cons Dotless (c ∷ []) []
+    (λ has. no_dot_first c [] (eqb-false c 46 e) (λ it. absurd (omega (arith, it.1))) has.0 has.1
+    has.2) none
 parts_at false c (part ∷ parts) e none =
-    All-cons Dotless (c ∷ part) parts (λ has. no_dot_first c part (eqb-false c 46 e) (All-head Dotless part parts none) has.0 has.1 has.2) (All-tail Dotless part parts none)
+    All-cons Dotless (c ∷ part) parts
+    (λ has. no_dot_first c part (eqb-false c 46 e) (All-head Dotless part parts none) has.0
+    has.1 has.2) (All-tail Dotless part parts none)
 
 pub dotted-no_dot : (cs : List ℕ) → HaveNoDot (dotted cs)
 dotted-no_dot [] = All-cons Dotless [] [] (λ has. absurd (omega (arith, has.1))) (All-nil Dotless)
@@ -38,11 +46,18 @@ not_dot false c part e none = refl
 
 none_pass : (part : List ℕ) → Dotless part → NonePass (λ c. eqb c 46) part
 none_pass [] none = tt
-none_pass (c ∷ part) none = (not_dot (eqb c 46) c part refl none, none_pass part (λ has. none (suc has.0, omega (arith, has.1), has.2)))
+none_pass (c ∷ part) none = (
+  not_dot (eqb c 46) c part refl none,
+  none_pass part (λ has. none (suc has.0, omega (arith, has.1), has.2)),
+)
 
-pub dotted-joined : (parts : List (List ℕ)) → parts ≢ [] → HaveNoDot parts → dotted (join_with_byte 46 parts) ≡ parts
+pub dotted-joined : (parts : List (List ℕ)) → parts ≢ [] → HaveNoDot parts
+    → dotted (join_with_byte 46 parts) ≡ parts
 dotted-joined [] some none = absurd (some refl)
-dotted-joined (part ∷ []) some none = dotted-last part (none_pass part (All-head Dotless part [] none))
+dotted-joined (part ∷ []) some none =
+    dotted-last part (none_pass part (All-head Dotless part [] none))
 dotted-joined (part ∷ next ∷ parts) some none =
-    dotted-part part (join_with_byte 46 (next ∷ parts)) (none_pass part (All-head Dotless part (next ∷ parts) none))
-    ∙ ap (λ rest. part ∷ rest) (dotted-joined (next ∷ parts) (λ e. cc) (All-tail Dotless part (next ∷ parts) none))
+    dotted-part part (join_with_byte 46 (next ∷ parts))
+    (none_pass part (All-head Dotless part (next ∷ parts) none))
+    ∙ ap (λ rest. part ∷ rest)
+    (dotted-joined (next ∷ parts) (λ e. cc) (All-tail Dotless part (next ∷ parts) none))

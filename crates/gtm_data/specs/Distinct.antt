@@ -1,7 +1,8 @@
 -- That no Map of a tree has a key twice.
 use Rattle.std.specs.Prelude.{◌≡◌, ℕ, List, Bool, false, ◌||◌}
 use Rattle.std.specs.Str.{bytes_eq}
-use Rattle.gtm_data.specs.Tree.{Tree, undefined, null, bool, whole, text, list, object, foreign, callback, Trees, end, item, Entries, none, entry}
+use Rattle.gtm_data.specs.Tree.{Tree, undefined, null, bool, whole, text, list, object, foreign}
+use Rattle.gtm_data.specs.Tree.{callback, Trees, end, item, Entries, none, entry}
 
 -- whether some member has this key
 abbrev pub has_member : List ℕ → Entries → Bool

@@ -1,9 +1,11 @@
 -- Compact JSON text, as a list of characters.
-use Rattle.std.specs.Prelude.{ℕ, ◌/◌, ◌%◌, ◌==◌, nat_lt, nat_le, List, [], ◌∷◌, ◌++◌, codes, Bool, not, ◌&&◌, true, false, if◌then◌else◌}
+use Rattle.std.specs.Prelude.{ℕ, ◌/◌, ◌%◌, ◌==◌, nat_lt, nat_le, List, [], ◌∷◌, ◌++◌, codes, Bool}
+use Rattle.std.specs.Prelude.{not, ◌&&◌, true, false, if◌then◌else◌}
 use Rattle.std.specs.Char.{digit_char}
 use Rattle.std.specs.Fmt.{signed_decimal}
 use Rattle.std.specs.List.{flat_map, join_with_byte}
-use Rattle.gtm_data.specs.Tree.{Tree, undefined, null, bool, whole, text, list, object, foreign, callback, Trees, end, item, Entries, none, entry}
+use Rattle.gtm_data.specs.Tree.{Tree, undefined, null, bool, whole, text, list, object, foreign}
+use Rattle.gtm_data.specs.Tree.{callback, Trees, end, item, Entries, none, entry}
 
 -- one character within quotes
 abbrev pub escaped : ℕ → List ℕ

@@ -1,5 +1,6 @@
 -- Paths of keys and indexes into a tree, and dotted texts.
-use Rattle.std.specs.Prelude.{◌≡◌, ℕ, zero, suc, ◌+◌, ◌^◌, ◌<◌, ◌==◌, List, [], ◌∷◌, ◌++◌, map, All, Contains, decimal, Option, Some, None, option_and_then, if◌then◌else◌}
+use Rattle.std.specs.Prelude.{◌≡◌, ℕ, zero, suc, ◌+◌, ◌^◌, ◌<◌, ◌==◌, List, [], ◌∷◌, ◌++◌, map, All}
+use Rattle.std.specs.Prelude.{Contains, decimal, Option, Some, None, option_and_then, if◌then◌else◌}
 use Rattle.std.specs.Str.{bytes_eq}
 use Rattle.gtm_data.specs.Tree.{Tree, list, object, Trees, end, item, Entries, none, entry}
 
@@ -52,7 +53,8 @@ HaveNoDot parts = All (λ part. ¬ Contains part 46) parts
 -- the item whose index, counted on from here, is written so in decimal digits
 abbrev pub numbered : ℕ → List ℕ → Trees → Option Tree
 numbered at name end = None
-numbered at name (item t ts) = if bytes_eq (decimal at) name then Some t else numbered (at + 1) name ts
+numbered at name (item t ts) =
+    if bytes_eq (decimal at) name then Some t else numbered (at + 1) name ts
 
 -- the member of a Map with this key, or the item of a List with this index
 abbrev pub named : List ℕ → Tree → Option Tree
@@ -76,4 +78,5 @@ pub record Writes (path : List Step) (parts : List (List ℕ)) : Type 0 where
 
 -- no List within it has more than 2 ^ 64 items
 pub record IsIndexed (t : Tree) : Type 0 where
-  pub below : (path : List Step) (place : ℕ) (v : Tree) → at (path ++ index place ∷ []) t ≡ Some v → place < 2 ^ 64
+  pub below : (path : List Step) (place : ℕ) (v : Tree) → at (path ++ index place ∷ []) t ≡ Some v
+      → place < 2 ^ 64

@@ -1,14 +1,20 @@
 -- The data of a JSON tree.
-use Rattle.std.specs.Prelude.{ℕ, ◌+◌, ℤ, pos, negsuc, List, [], ◌∷◌, ◌++◌, map, find, Bool, true, false, not, ◌&&◌, Option, Some, None, option_map, option_and_then, is_some, codes, ◌==◌, nat_le, unwrap_or, if◌then◌else◌, int_lt, decimal}
+use Rattle.std.specs.Prelude.{ℕ, ◌+◌, ℤ, pos, negsuc, List, [], ◌∷◌, ◌++◌, map, find, Bool, true}
+use Rattle.std.specs.Prelude.{false, not, ◌&&◌, Option, Some, None, option_map, option_and_then}
+use Rattle.std.specs.Prelude.{is_some, codes, ◌==◌, nat_le, unwrap_or, if◌then◌else◌, int_lt}
+use Rattle.std.specs.Prelude.{decimal}
 use Rattle.std.specs.List.{flat_map}
 use Rattle.std.specs.Str.{chars}
 use Rattle.serde_json.specs.Data as json
 use Rattle.serde_json.specs.Find.{as_i64}
-use Rattle.gtm_data.specs.Tree.{Tree, null, bool, whole, text, list, object, Trees, end, item, Entries, none, entry}
+use Rattle.gtm_data.specs.declared.limits.TheConstants.{MAX_DEPTH}
+use Rattle.gtm_data.specs.Tree.{Tree, null, bool, whole, text, list, object, Trees, end, item}
+use Rattle.gtm_data.specs.Tree.{Entries, none, entry}
 
 -- the number, where it lies from -9007199254740991 to 9007199254740991
 abbrev pub in_range : ℤ → Option ℤ
-in_range z = if int_lt (negsuc 9007199254740991) z && int_lt z (pos 9007199254740992) then Some z else None
+in_range z =
+    if int_lt (negsuc 9007199254740991) z && int_lt z (pos 9007199254740992) then Some z else None
 
 -- the number of a JSON tree, where it is whole and in range
 abbrev pub whole_of : json.Num → Option ℤ
@@ -46,7 +52,8 @@ key_step name = 47 ∷ flat_map pointer_char name
 abbrev pub index_step : ℕ → List ℕ
 index_step place = 47 ∷ decimal place
 
--- a value within a JSON tree: the JSON pointer to it (RFC 6901), in how many Lists and Maps it stands, and the value
+-- a value within a JSON tree: the JSON pointer to it (RFC 6901), in how many Lists and Maps it
+-- stands, and the value
 pub record Node : Type 0 where
   pub path : List ℕ
   pub above : ℕ
@@ -60,7 +67,8 @@ root d = record { path = []; above = 0; value = d }
 abbrev pub inside : List ℕ → Node → Node
 inside step node = record { path = step ++ node.path; above = node.above + 1; value = node.value }
 
--- every value within a tree, in order of walking: a value before those inside it, items and members in their order
+-- every value within a tree, in order of walking: a value before those inside it, items and members
+-- in their order
 unfoldable mutual
   pub nodes : json.Data → List Node
   nodes json.null = root json.null ∷ []
@@ -73,12 +81,14 @@ unfoldable mutual
   -- every value within the items of a List, from the one at this place on
   pub item_nodes : ℕ → json.Items → List Node
   item_nodes place json.no_items = []
-  item_nodes place (json.item d ds) = map (inside (index_step place)) (nodes d) ++ item_nodes (place + 1) ds
+  item_nodes place (json.item d ds) =
+      map (inside (index_step place)) (nodes d) ++ item_nodes (place + 1) ds
 
   -- every value within the members of a Map
   pub member_nodes : json.Members → List Node
   member_nodes json.no_members = []
-  member_nodes (json.member key d ms) = map (inside (key_step (chars key))) (nodes d) ++ member_nodes ms
+  member_nodes (json.member key d ms) =
+      map (inside (key_step (chars key))) (nodes d) ++ member_nodes ms
 
 -- the path of the first value of which this holds
 abbrev pub first_path : (Node → Bool) → List Node → Option (List ℕ)
@@ -103,23 +113,20 @@ is_nest _ = false
 abbrev pub is_nest_below : ℕ → Node → Bool
 is_nest_below allowed node = is_nest node.value && nat_le allowed node.above
 
--- the depth that data may have
-abbrev pub depth_limit : ℕ
-depth_limit = 64
-
 -- the path of the first number that is not whole and in range
 abbrev pub not_whole : json.Data → Option (List ℕ)
 not_whole d = first_path is_unfit_at (nodes d)
 
 -- the path of the first List or Map that has as many Lists and Maps above it as data may be deep
 abbrev pub too_deep : json.Data → Option (List ℕ)
-too_deep d = first_path (is_nest_below depth_limit) (nodes d)
+too_deep d = first_path (is_nest_below MAX_DEPTH) (nodes d)
 
 -- the tree, where there is neither path
 abbrev pub tree_unless : Option (List ℕ) → Option (List ℕ) → Tree → Option Tree
 tree_unless None None t = Some t
 tree_unless _ _ t = None
 
--- the data of a JSON tree: there is some exactly where each number is whole and in range and it is not too deep
+-- the data of a JSON tree: there is some exactly where each number is whole and in range and it is
+-- not too deep
 abbrev pub plain : json.Data → Option Tree
 plain d = tree_unless (not_whole d) (too_deep d) (tree_in d)

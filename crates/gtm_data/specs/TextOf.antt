@@ -2,7 +2,8 @@
 use Rattle.std.specs.Prelude.{ℕ, List, [], ◌∷◌, true, false, codes}
 use Rattle.std.specs.Fmt.{signed_decimal}
 use Rattle.std.specs.List.{join_with_byte}
-use Rattle.gtm_data.specs.Tree.{Tree, undefined, null, bool, whole, text, list, object, foreign, callback, Trees, end, item}
+use Rattle.gtm_data.specs.Tree.{Tree, undefined, null, bool, whole, text, list, object, foreign}
+use Rattle.gtm_data.specs.Tree.{callback, Trees, end, item}
 
 -- a tree as a text: items are joined by commas, and a Map or a function is only named
 unfoldable mutual

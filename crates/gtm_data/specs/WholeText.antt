@@ -1,5 +1,6 @@
 -- Whole numbers as texts.
-use Rattle.std.specs.Prelude.{ℕ, ◌+◌, ◌-◌, ◌*◌, ℤ, pos, neg_ℤ, List, [], ◌∷◌, Option, Some, None, option_map, option_and_then, ◌==◌, if◌then◌else◌}
+use Rattle.std.specs.Prelude.{ℕ, ◌+◌, ◌-◌, ◌*◌, ℤ, pos, neg_ℤ, List, [], ◌∷◌, Option, Some, None}
+use Rattle.std.specs.Prelude.{option_map, option_and_then, ◌==◌, if◌then◌else◌}
 use Rattle.std.specs.Str.{all_ascii_digits}
 use Rattle.gtm_data.specs.Plain.{in_range}
 
@@ -16,7 +17,9 @@ digits_of (c ∷ cs) = if all_ascii_digits (c ∷ cs) then Some (read_on 0 (c �
 -- the same with an optional `-` before them
 abbrev pub signed_of : List ℕ → Option ℤ
 signed_of [] = None
-signed_of (c ∷ cs) = if c == 45 then option_map (λ number. neg_ℤ (pos number)) (digits_of cs) else option_map pos (digits_of (c ∷ cs))
+signed_of (c ∷ cs) =
+    if c == 45 then option_map (λ number. neg_ℤ (pos number)) (digits_of cs)
+    else option_map pos (digits_of (c ∷ cs))
 
 -- the whole number that a text is, where it lies from -9007199254740991 to 9007199254740991
 abbrev pub whole_text : List ℕ → Option ℤ

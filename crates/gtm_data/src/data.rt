@@ -42,7 +42,8 @@ impl Data {
 
     /// The member with this key, or `None` where no member has it or the value is no Map.
     pub fn member(&self, key: &str) -> Option<&Data>
-        ensures { option_map (λ found. tree_of found.now) result ≡ member_of (chars key.now) (tree_of self.now) }
+        ensures { option_map (λ found. tree_of found.now) result
+            ≡ member_of (chars key.now) (tree_of self.now) }
     {
         match self {
             Data::Map(members) => members.get(key),

@@ -4,7 +4,8 @@ use gtm_base::{Address, Text, Texts};
 /// What is known of a page.
 #[derive(Debug, Drop)]
 pub enum PageFact {
-    /// The page's address, referrer, title, character set and region, where they are told. A reader leaves both addresses `None`; they are filled later, with the parts of `url` and `referrer`.
+    /// The page's address, referrer, title, character set and region, where they are told. A reader
+    /// leaves both addresses `None`; they are filled later, with the parts of `url` and `referrer`.
     Page {
         url: Option<Text>,
         referrer: Option<Text>,

@@ -18,7 +18,8 @@ fn in_range(number: i64) -> Option<i64>
     }
 }
 
-/// The number of a JSON tree, where it is written whole and lies from -9007199254740991 to 9007199254740991; else `None`.
+/// The number of a JSON tree, where it is written whole and lies from -9007199254740991 to
+/// 9007199254740991; else `None`.
 pub fn whole_of(number: &Number) -> Option<i64>
     ensures { result ≡ whole_of (number_view number.now) }
 {
@@ -28,7 +29,9 @@ pub fn whole_of(number: &Number) -> Option<i64>
     }
 }
 
-/// The whole number that a text is: an optional `-` and one or more ASCII digits, with any number of zeros first. `None` where it has another form, or lies outside of -9007199254740991 to 9007199254740991. Takes no memory.
+/// The whole number that a text is: an optional `-` and one or more ASCII digits, with any number
+/// of zeros first. `None` where it has another form, or lies outside of -9007199254740991 to
+/// 9007199254740991. Takes no memory.
 pub fn whole_text(text: &str) -> Option<i64>
     ensures { result ≡ whole_text (chars text.now) }
 {

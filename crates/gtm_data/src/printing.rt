@@ -2,14 +2,16 @@ ghost use Rattle.std.specs.Prelude.{◌≡◌, ◌<◌, ◌++◌, ◌∷◌, [],
 ghost use Rattle.std.specs.Char.{digit_char};
 ghost use Rattle.std.specs.List.{flat_map, join_with_byte, list_all};
 ghost use Rattle.std.specs.Str.{chars};
-ghost use Rattle.gtm_data.specs.JsonText.{json_text, item_texts, member_texts, quoted, escaped, is_plain_byte, comma_before};
+ghost use Rattle.gtm_data.specs.JsonText.{json_text, item_texts, member_texts, quoted, escaped};
+ghost use Rattle.gtm_data.specs.JsonText.{is_plain_byte, comma_before};
 ghost use Rattle.gtm_data.specs.Tree.{tree_of, trees_of, entries_of};
 
 use crate::data::{Data, Items, Members};
 use gtm_base::{OutOfMemory, Text};
 use std::alloc::Global;
 
-/// The value as compact JSON text. `undefined` and functions, which JSON lacks, stand as the words `undefined` and `function`.
+/// The value as compact JSON text. `undefined` and functions, which JSON lacks, stand as the words
+/// `undefined` and `function`.
 pub fn json_text(alloc: Global, value: &Data) -> Result<Text, OutOfMemory>
     ensures { IfOk result (λ text. text ≡ json_text (tree_of value.now)) }
 {
@@ -18,7 +20,8 @@ pub fn json_text(alloc: Global, value: &Data) -> Result<Text, OutOfMemory>
     Ok(out)
 }
 
-/// Puts the JSON text of a value behind a text. Where memory is wanting, a part of it may stand there.
+/// Puts the JSON text of a value behind a text. Where memory is wanting, a part of it may stand
+/// there.
 #[cycle(json)]
 #[tactic(auto, unfolding(crate::specs::JsonText::json_text))]
 pub fn write_json(out: &mut Text, value: &Data) -> Result<(), OutOfMemory>
@@ -48,7 +51,8 @@ pub fn write_json(out: &mut Text, value: &Data) -> Result<(), OutOfMemory>
 
 #[cycle(json)]
 fn write_items(out: &mut Text, items: &Items) -> Result<(), OutOfMemory>
-    ensures { OnOk result (out.new ≡ out.old ++ join_with_byte 44 (item_texts (trees_of items.now))) }
+    ensures { OnOk result
+        (out.new ≡ out.old ++ join_with_byte 44 (item_texts (trees_of items.now))) }
 {
     for (at, item) in items.as_slice().iter().enumerate() {
         write_comma(out, at)?;
@@ -59,7 +63,8 @@ fn write_items(out: &mut Text, items: &Items) -> Result<(), OutOfMemory>
 
 #[cycle(json)]
 fn write_members(out: &mut Text, members: &Members) -> Result<(), OutOfMemory>
-    ensures { OnOk result (out.new ≡ out.old ++ join_with_byte 44 (member_texts (entries_of members.now.pairs))) }
+    ensures { OnOk result
+        (out.new ≡ out.old ++ join_with_byte 44 (member_texts (entries_of members.now.pairs))) }
 {
     for (at, member) in members.as_slice().iter().enumerate() {
         write_comma(out, at)?;
@@ -87,7 +92,8 @@ fn write_key(out: &mut Text, key: &Text) -> Result<(), OutOfMemory>
     Ok(())
 }
 
-/// Puts a text as a JSON string behind a text. Where memory is wanting, a part of it may stand there.
+/// Puts a text as a JSON string behind a text. Where memory is wanting, a part of it may stand
+/// there.
 pub fn write_quoted(out: &mut Text, text: &str) -> Result<(), OutOfMemory>
     ensures { OnOk result (out.new ≡ out.old ++ quoted (chars text.now)) }
 {

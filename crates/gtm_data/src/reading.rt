@@ -4,6 +4,7 @@ ghost use Rattle.gtm_data.specs.Plain.{plain, not_whole, too_deep, tree_in, tree
 ghost use Rattle.gtm_data.specs.Refusals.{Refuses, IsOutOfMemory};
 ghost use Rattle.gtm_data.specs.Tree.{tree_of, trees_of, entries_of};
 
+use crate::MAX_DEPTH;
 use crate::data::{Data, Items, Members};
 use crate::numbers::whole_of;
 use crate::refusing::{not_whole, too_deep};
@@ -11,16 +12,16 @@ use gtm_base::{OutOfMemory, Text};
 use serde_json::{Map, Value};
 use std::alloc::Global;
 
-const DEPTH_LIMIT: usize = 64;
-
 /// Why there is no data of a JSON tree.
 #[derive(Debug, Drop)]
 pub enum DataEnd {
     /// Memory was wanting.
     OutOfMemory,
-    /// The number at this JSON pointer is not whole, or lies outside of -9007199254740991 to 9007199254740991. It is the first one.
+    /// The number at this JSON pointer is not whole, or lies outside of -9007199254740991 to
+    /// 9007199254740991. It is the first one.
     NotWhole { path: Text },
-    /// The List or Map at this JSON pointer has 64 Lists and Maps above it. It is the first one.
+    /// The List or Map at this JSON pointer has `MAX_DEPTH` Lists and Maps above it. It is the
+    /// first one.
     TooDeep { path: Text },
 }
 
@@ -32,7 +33,8 @@ impl From<OutOfMemory> for DataEnd {
     }
 }
 
-/// The data of a JSON tree. `NotWhole` comes where a number has no place among the data, else `TooDeep` where Lists and Maps nest more than 64 deep.
+/// The data of a JSON tree. `NotWhole` comes where a number has no place among the data, else
+/// `TooDeep` where Lists and Maps nest more than `MAX_DEPTH` deep.
 pub fn from_json(alloc: Global, tree: &Value) -> Result<Data, DataEnd>
     ensures ok { IfOk result (λ made. plain (view tree.now) ≡ Some (tree_of made)) }
     ensures err { IfErr result (Refuses (view tree.now)) }
@@ -43,15 +45,17 @@ pub fn from_json(alloc: Global, tree: &Value) -> Result<Data, DataEnd>
     }
 }
 
-/// Whether there is data of a JSON tree: `Ok` exactly where `from_json` gives some, memory aside, and else its very error.
+/// Whether there is data of a JSON tree: `Ok` exactly where `from_json` gives some, memory aside,
+/// and else its very error.
 pub fn check_json(alloc: Global, tree: &Value) -> Result<(), DataEnd>
-    ensures ok { OnOk result ((not_whole (view tree.now) ≡ None) × (too_deep (view tree.now) ≡ None)) }
+    ensures ok { OnOk result
+        ((not_whole (view tree.now) ≡ None) × (too_deep (view tree.now) ≡ None)) }
     ensures err { IfErr result (Refuses (view tree.now)) }
 {
     if let Some(path) = not_whole(alloc, tree)? {
         return Err(DataEnd::NotWhole { path });
     }
-    if let Some(path) = too_deep(alloc, DEPTH_LIMIT, tree)? {
+    if let Some(path) = too_deep(alloc, MAX_DEPTH, tree)? {
         return Err(DataEnd::TooDeep { path });
     }
     Ok(())
@@ -86,7 +90,8 @@ fn convert_items(alloc: Global, items: &Vec<Value>) -> Result<Items, OutOfMemory
 
 #[cycle(convert)]
 fn convert_members(alloc: Global, members: &Map<String, Value>) -> Result<Members, OutOfMemory>
-    ensures { IfOk result (λ made. entries_of made.pairs ≡ entries_in (members_view members.now.entries)) }
+    ensures { IfOk result
+        (λ made. entries_of made.pairs ≡ entries_in (members_view members.now.entries)) }
 {
     let mut made = Members::new(alloc);
     for (key, member) in members.iter() {

@@ -2,14 +2,16 @@ ghost use Rattle.std.specs.Prelude.{◌≡◌, ◌+◌, ◌++◌, IfOk, OnOk};
 ghost use Rattle.std.specs.List.{flat_map};
 ghost use Rattle.std.specs.Str.{chars};
 ghost use Rattle.serde_json.specs.View.{view, items_view, members_view};
-ghost use Rattle.gtm_data.specs.Plain.{pointer_char, key_step, index_step, nodes, item_nodes, member_nodes, first_path, is_unfit_at, is_nest_below};
+ghost use Rattle.gtm_data.specs.Plain.{pointer_char, key_step, index_step, nodes, item_nodes};
+ghost use Rattle.gtm_data.specs.Plain.{member_nodes, first_path, is_unfit_at, is_nest_below};
 
 use crate::numbers::whole_of;
 use gtm_base::{OutOfMemory, Text};
 use serde_json::{Map, Value};
 use std::alloc::Global;
 
-/// The JSON pointer from the value to the first number that is not whole and in range. Takes memory only where there is one.
+/// The JSON pointer from the value to the first number that is not whole and in range. Takes memory
+/// only where there is one.
 #[cycle(not_whole)]
 #[tactic(auto, unfolding(crate::specs::Plain::nodes))]
 pub(crate) fn not_whole(alloc: Global, value: &Value) -> Result<Option<Text>, OutOfMemory>
@@ -31,7 +33,8 @@ pub(crate) fn not_whole(alloc: Global, value: &Value) -> Result<Option<Text>, Ou
 
 #[cycle(not_whole)]
 fn items_not_whole(alloc: Global, items: &Vec<Value>) -> Result<Option<Text>, OutOfMemory>
-    ensures { IfOk result (λ found. found ≡ first_path is_unfit_at (item_nodes 0 (items_view items.now.items))) }
+    ensures { IfOk result
+        (λ found. found ≡ first_path is_unfit_at (item_nodes 0 (items_view items.now.items))) }
 {
     for (at, item) in items.iter().enumerate() {
         if let Some(path) = not_whole(alloc, item)? {
@@ -46,7 +49,9 @@ fn members_not_whole(
     alloc: Global,
     members: &Map<String, Value>,
 ) -> Result<Option<Text>, OutOfMemory>
-    ensures { IfOk result (λ found. found ≡ first_path is_unfit_at (member_nodes (members_view members.now.entries))) }
+    ensures { IfOk result
+        (λ found. found
+        ≡ first_path is_unfit_at (member_nodes (members_view members.now.entries))) }
 {
     for (key, member) in members.iter() {
         if let Some(path) = not_whole(alloc, member)? {
@@ -56,7 +61,8 @@ fn members_not_whole(
     Ok(None)
 }
 
-/// The JSON pointer from the value to the first List or Map with at least so many Lists and Maps above it, counted from the value on. Takes memory only where there is one.
+/// The JSON pointer from the value to the first List or Map with at least so many Lists and Maps
+/// above it, counted from the value on. Takes memory only where there is one.
 #[cycle(too_deep)]
 #[tactic(auto, unfolding(crate::specs::Plain::nodes))]
 pub(crate) fn too_deep(
@@ -64,7 +70,8 @@ pub(crate) fn too_deep(
     allowed: usize,
     value: &Value,
 ) -> Result<Option<Text>, OutOfMemory>
-    ensures { IfOk result (λ found. found ≡ first_path (is_nest_below allowed) (nodes (view value.now))) }
+    ensures { IfOk result
+        (λ found. found ≡ first_path (is_nest_below allowed) (nodes (view value.now))) }
 {
     match value {
         Value::Array(items) => {
@@ -92,7 +99,9 @@ fn items_too_deep(
     allowed: usize,
     items: &Vec<Value>,
 ) -> Result<Option<Text>, OutOfMemory>
-    ensures { IfOk result (λ found. found ≡ first_path (is_nest_below (allowed + 1)) (item_nodes 0 (items_view items.now.items))) }
+    ensures { IfOk result
+        (λ found. found
+        ≡ first_path (is_nest_below (allowed + 1)) (item_nodes 0 (items_view items.now.items))) }
 {
     for (at, item) in items.iter().enumerate() {
         if let Some(path) = too_deep(alloc, allowed, item)? {
@@ -108,7 +117,10 @@ fn members_too_deep(
     allowed: usize,
     members: &Map<String, Value>,
 ) -> Result<Option<Text>, OutOfMemory>
-    ensures { IfOk result (λ found. found ≡ first_path (is_nest_below (allowed + 1)) (member_nodes (members_view members.now.entries))) }
+    ensures { IfOk result
+        (λ found. found
+        ≡ first_path (is_nest_below (allowed + 1))
+        (member_nodes (members_view members.now.entries))) }
 {
     for (key, member) in members.iter() {
         if let Some(path) = too_deep(alloc, allowed, member)? {

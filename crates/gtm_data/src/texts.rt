@@ -8,7 +8,8 @@ use crate::printing::write_comma;
 use gtm_base::{OutOfMemory, Text};
 use std::alloc::Global;
 
-/// The value as a text: a text is itself, the items of a List are joined by commas, a Map is `[object Object]` and a function `[function]`.
+/// The value as a text: a text is itself, the items of a List are joined by commas, a Map is
+/// `[object Object]` and a function `[function]`.
 pub fn text_of(alloc: Global, value: &Data) -> Result<Text, OutOfMemory>
     ensures { IfOk result (λ text. text ≡ text_of (tree_of value.now)) }
 {

@@ -5,9 +5,12 @@ ghost use Rattle.gtm_data.specs.Tree.{tree_of};
 
 use crate::data::Data;
 
-/// The value at a dotted path: each part is a key of a Map or an index of a List, counted from 0 and written in decimal digits with no zero before them. `None` where a part leads nowhere. Takes no memory.
+/// The value at a dotted path: each part is a key of a Map or an index of a List, counted from 0
+/// and written in decimal digits with no zero before them. `None` where a part leads nowhere. Takes
+/// no memory.
 pub fn get<'a>(root: &'a Data, path: &str) -> Option<&'a Data>
-    ensures { option_map (λ found. tree_of found.now) result ≡ walk (dotted (chars path.now)) (tree_of root.now) }
+    ensures { option_map (λ found. tree_of found.now) result
+        ≡ walk (dotted (chars path.now)) (tree_of root.now) }
 {
     let mut here = root;
     let mut left = path;
@@ -19,7 +22,8 @@ pub fn get<'a>(root: &'a Data, path: &str) -> Option<&'a Data>
 }
 
 fn named<'a>(value: &'a Data, name: &str) -> Option<&'a Data>
-    ensures { option_map (λ found. tree_of found.now) result ≡ named (chars name.now) (tree_of value.now) }
+    ensures { option_map (λ found. tree_of found.now) result
+        ≡ named (chars name.now) (tree_of value.now) }
 {
     match value {
         Data::Map(members) => members.get(name),

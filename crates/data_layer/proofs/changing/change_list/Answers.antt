@@ -10,5 +10,7 @@ pub returns-in_ok-run_method-in-Some-clause-changed : goal.returns-in_ok-run_met
 returns-in_ok-run_method-in-Some-clause-changed c =
     let command = c.args.command.now in
     tree_of-List c.run_method.new.list
-    ∙ list_changed (after_method command.method (map tree_of command.items.now)) c.in-Some.list.now c.run_method.new.list c.in_ok-run_method-in-Some.ensures
-    ∙ ap (changed_by command) (sym (ap tree_of c.in-Some.ensures.items ∙ tree_of-List c.in-Some.list.now))
+    ∙ list_changed (after_method command.method (map tree_of command.items.now)) c.in-Some.list.now
+    c.run_method.new.list c.in_ok-run_method-in-Some.ensures
+    ∙ ap (changed_by command)
+    (sym (ap tree_of c.in-Some.ensures.items ∙ tree_of-List c.in-Some.list.now))

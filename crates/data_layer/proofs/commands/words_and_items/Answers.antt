@@ -8,6 +8,10 @@ use Rattle.data_layer.proofs.commands.words_and_items.Goals as goal
 pub returns : goal.returns
 returns c =
     let items = c.as_slice.result.now in
-    let is : text_in (tree_of c.first-item.result) ≡ Some c.in_ok-as_text.field-0.now = sym c.as_text.ensures ∙ ap (option_map (λ text. text.now)) c.in_ok-as_text.was in
-    ap command_in (ap tree_of c.in-List.is ∙ tree_of-List c.in-List.list ∙ ap (λ found. list (trees_of found)) (sym c.as_slice.ensures))
-    ∙ words_first items c.first-item.result c.in_ok-as_text.field-0.now c.in-len1-up.len_at_least c.first-item.is is
+    let is : text_in (tree_of c.first-item.result) ≡ Some c.in_ok-as_text.field-0.now =
+    sym c.as_text.ensures ∙ ap (option_map (λ text. text.now)) c.in_ok-as_text.was in
+    ap command_in
+    (ap tree_of c.in-List.is ∙ tree_of-List c.in-List.list
+    ∙ ap (λ found. list (trees_of found)) (sym c.as_slice.ensures))
+    ∙ words_first items c.first-item.result c.in_ok-as_text.field-0.now c.in-len1-up.len_at_least
+    c.first-item.is is

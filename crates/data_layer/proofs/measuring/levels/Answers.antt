@@ -3,5 +3,12 @@ use Rattle.std.proofs.lemmas.Bool.Decides.{nat_tests}
 use Rattle.data_layer.proofs.FewParts.{few_parts}
 use Rattle.data_layer.proofs.measuring.levels.Goals as goal
 
-pub returns-then-saturating_add-lt64 : goal.returns-then-saturating_add-lt64
-returns-then-saturating_add-lt64 c = let few = few_parts c.args.key.now c.utf8.key in grind (arith, nat_tests, c.if-saturating_add-lt64.true, c.saturating_add.ensures, c.from-depth.ensures, c.depth.ensures)
+pub returns-then-saturating_add-lt-MAX_DEPTH : goal.returns-then-saturating_add-lt-MAX_DEPTH
+returns-then-saturating_add-lt-MAX_DEPTH c = let few = few_parts c.args.key.now c.utf8.key in
+    grind (
+      arith,
+      nat_tests,
+      c.if-saturating_add-lt-MAX_DEPTH.true,
+      c.saturating_add.ensures,
+      c.depth-depth.ensures,
+    )

@@ -6,5 +6,7 @@ use Rattle.data_layer.proofs.measuring.part_count.Goals as goal
 
 pub returns : goal.returns
 returns c =
-    count_from_yields_List _ _ c.count.ensures.ran (YieldsList-from_str_split 46 c.args.key.now (lit< tt) c.split.ensures.text c.split.ensures.has_more c.split.ensures.pattern)
+    count_from_yields_List _ _ c.count.ensures.ran
+    (YieldsList-from_str_split 46 c.args.key.now (lit< tt) c.split.ensures.text
+    c.split.ensures.has_more c.split.ensures.pattern)
     ∙ dotted_count c.args.key.now c.utf8.key

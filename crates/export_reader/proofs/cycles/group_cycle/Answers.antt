@@ -8,6 +8,8 @@ use Rattle.export_reader.proofs.cycles.group_cycle.Goals as goal
 
 pub returns-clause-none : goal.returns-clause-none
 returns-clause-none c =
-    untold (group_graph c.args.container.now) (entry_path (codes "trigger")) c.in_ok-found.found c.entry_path.result
-    (subst (λ graph. MatchOption c.in_ok-found.found (HasNoCycle graph) (IsFirstOnCycle graph)) (c.as_slice.ensures ∙ c.in_ok-graph.ensures) c.in_ok-found.ensures.found)
+    untold (group_graph c.args.container.now) (entry_path (codes "trigger")) c.in_ok-found.found
+    c.entry_path.result
+    (subst (λ graph. MatchOption c.in_ok-found.found (HasNoCycle graph) (IsFirstOnCycle graph))
+    (c.as_slice.ensures ∙ c.in_ok-graph.ensures) c.in_ok-found.ensures.found)
     c.entry_path.ensures

@@ -9,4 +9,6 @@ pub returns-in_ok-path-in-None-clause-judged : goal.returns-in_ok-path-in-None-c
 unfolding tree_rules
 returns-in_ok-path-in-None-clause-judged c =
     let d = view c.args.tree.now in
-    lacks_version (not_whole d) (too_deep d) (other_format d) (version_in d) _ c.in_ok-path-in-None.path c.in-Ok.ensures.ok.0 c.in-Ok.ensures.ok.1 c.if-not-is_format_two.ensures c.in-None.ensures c.in_ok-path-in-None.ensures
+    lacks_version (not_whole d) (too_deep d) (other_format d) (version_in d) _
+    c.in_ok-path-in-None.path c.in-Ok.ensures.ok.0 c.in-Ok.ensures.ok.1
+    c.if-not-is_format_two.ensures c.in-None.ensures c.in_ok-path-in-None.ensures

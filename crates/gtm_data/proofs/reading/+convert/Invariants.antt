@@ -6,8 +6,10 @@ use Rattle.gtm_data.specs.Tree.{tree_of, entries_of}
 use Rattle.gtm_data.proofs.reading.+convert.Given as goal
 
 abbrev pub invariant-convert_items-loop-item : goal.invariant-convert_items-loop-item
-invariant-convert_items-loop-item l = map tree_of l.made ≡ map (λ v. tree_in (view v)) (take l.item-index l.item-items)
+invariant-convert_items-loop-item l =
+    map tree_of l.made ≡ map (λ v. tree_in (view v)) (take l.item-index l.item-items)
 
 abbrev pub invariant-convert_members-loop-key : goal.invariant-convert_members-loop-key
 invariant-convert_members-loop-key l =
-    (done : List Entry) × (l.members.entries ≡ done ++ l.key-iterator) × (entries_of l.made.pairs ≡ entries_in (members_view done))
+    (done : List Entry) × (l.members.entries ≡ done ++ l.key-iterator)
+    × (entries_of l.made.pairs ≡ entries_in (members_view done))

@@ -1,4 +1,5 @@
-use Rattle.std.proofs.Common.{◌≡◌, [], ◌∷◌, ◌++◌, drop, suc, ◌+◌, add-one, refl, sym, ap, ◌∙◌, string_bytes}
+use Rattle.std.proofs.Common.{◌≡◌, [], ◌∷◌, ◌++◌, drop, suc, ◌+◌, add-one, refl, sym, ap, ◌∙◌}
+use Rattle.std.proofs.Common.{string_bytes}
 use Rattle.std.proofs.Math.ListN.{drop_of_length-le}
 use Rattle.std.specs.Str.{chars}
 use Rattle.serde_json.specs.View.{view, items_view, members_view}
@@ -14,8 +15,11 @@ items_not_whole-returns-in-Some t c =
     let items = c.deref-item-items.result.now in
     let item = c.item-item.result in
     let left = items_view (drop (suc l.at) items) in
-    let rest : drop l.at items ≡ item ∷ drop (suc l.at) items = next items items l.at item refl c.loop-at-test.true c.item-item.is in
-    item_told is_unfit_at is_unfit_at (λ step n. refl) l.at (view item) left c.in-Some.path c.in_ok-from_index.field-0 (sym c.in-Some.is ∙ c.in_ok-path.ensures) c.in_ok-from_index.ensures
+    let rest : drop l.at items ≡ item ∷ drop (suc l.at) items =
+    next items items l.at item refl c.loop-at-test.true c.item-item.is in
+    item_told is_unfit_at is_unfit_at (λ step n. refl) l.at (view item) left c.in-Some.path
+    c.in_ok-from_index.field-0 (sym c.in-Some.is ∙ c.in_ok-path.ensures)
+    c.in_ok-from_index.ensures
     ∙ ap (λ vs. first_path is_unfit_at (item_nodes l.at (items_view vs))) (sym rest) ∙ l.invariant
 
 pub items_not_whole-loop-at-preserved : goal.items_not_whole-loop-at-preserved
@@ -24,9 +28,12 @@ items_not_whole-loop-at-preserved t c =
     let items = c.deref-item-items.result.now in
     let item = c.item-item.result in
     let left = items_view (drop (suc l.at) items) in
-    let rest : drop l.at items ≡ item ∷ drop (suc l.at) items = next items items l.at item refl c.loop-at-test.true c.item-item.is in
-    ap (λ n. first_path is_unfit_at (item_nodes (l.at + 1) (items_view (drop n items)))) (add-one l.at)
-    ∙ item_passed is_unfit_at is_unfit_at (λ step n. refl) l.at (view item) left (sym c.in_default.is ∙ c.in_ok-path.ensures)
+    let rest : drop l.at items ≡ item ∷ drop (suc l.at) items =
+    next items items l.at item refl c.loop-at-test.true c.item-item.is in
+    ap (λ n. first_path is_unfit_at (item_nodes (l.at + 1) (items_view (drop n items))))
+    (add-one l.at)
+    ∙ item_passed is_unfit_at is_unfit_at (λ step n. refl) l.at (view item) left
+    (sym c.in_default.is ∙ c.in_ok-path.ensures)
     ∙ ap (λ vs. first_path is_unfit_at (item_nodes l.at (items_view vs))) (sym rest) ∙ l.invariant
 
 pub items_not_whole-returns : goal.items_not_whole-returns
@@ -43,8 +50,12 @@ members_not_whole-returns-in-Some-2 t c =
     let e : Entry = (c.in-Some.key.now, c.in-Some.member.now) in
     let left = c.next.new.self in
     let rest : l.key-iterator ≡ e ∷ left = c.in-Some.ensures.steps in
-    let made = c.in_ok-from_key.ensures ∙ ap (λ key. key_step (chars key) ++ c.in-Some-2.path) c.as_str.ensures.value in
-    member_told is_unfit_at is_unfit_at (λ step n. refl) (string_bytes e.0) (view e.1) (members_view left) c.in-Some-2.path c.in_ok-from_key.field-0 (sym c.in-Some-2.is ∙ c.in_ok-path.ensures) made
+    let made =
+    c.in_ok-from_key.ensures
+    ∙ ap (λ key. key_step (chars key) ++ c.in-Some-2.path) c.as_str.ensures.value in
+    member_told is_unfit_at is_unfit_at (λ step n. refl) (string_bytes e.0) (view e.1)
+    (members_view left) c.in-Some-2.path c.in_ok-from_key.field-0
+    (sym c.in-Some-2.is ∙ c.in_ok-path.ensures) made
     ∙ ap (λ es. first_path is_unfit_at (member_nodes (members_view es))) (sym rest) ∙ l.invariant
 
 pub members_not_whole-loop-key-preserved : goal.members_not_whole-loop-key-preserved
@@ -53,7 +64,8 @@ members_not_whole-loop-key-preserved t c =
     let e : Entry = (c.in-Some.key.now, c.in-Some.member.now) in
     let left = c.next.new.self in
     let rest : l.key-iterator ≡ e ∷ left = c.in-Some.ensures.steps in
-    member_passed is_unfit_at is_unfit_at (λ step n. refl) (string_bytes e.0) (view e.1) (members_view left) (sym c.in_default.is ∙ c.in_ok-path.ensures)
+    member_passed is_unfit_at is_unfit_at (λ step n. refl) (string_bytes e.0) (view e.1)
+    (members_view left) (sym c.in_default.is ∙ c.in_ok-path.ensures)
     ∙ ap (λ es. first_path is_unfit_at (member_nodes (members_view es))) (sym rest) ∙ l.invariant
 
 pub members_not_whole-returns : goal.members_not_whole-returns

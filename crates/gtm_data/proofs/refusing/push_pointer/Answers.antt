@@ -8,6 +8,8 @@ use Rattle.gtm_data.proofs.refusing.push_pointer.Goals as goal
 
 pub returns : goal.returns
 returns c =
-    let end = YieldsList-end (YieldsList-from_chars c.args.key.now c.utf8.key cc) c.loop-c.yielded _ c.loop-c.yielded_by _ _ c.in-None.is c.next.ensures.steps in
+    let end =
+    YieldsList-end (YieldsList-from_chars c.args.key.now c.utf8.key cc) c.loop-c.yielded _
+    c.loop-c.yielded_by _ _ c.in-None.is c.next.ensures.steps in
     let all : c.loop-c.yielded ≡ chars c.args.key.now = sym (map-id c.loop-c.yielded) ∙ end.0 in
     c.loop-c.invariant ∙ ap (λ cs. c.args.out.now ++ flat_map pointer_char cs) all

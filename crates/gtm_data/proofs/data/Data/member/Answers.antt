@@ -9,4 +9,5 @@ use Rattle.gtm_data.proofs.data.Data.member.Goals as goal
 pub returns-in-Map : goal.returns-in-Map
 returns-in-Map c =
     got c.get.result (chars c.args.key.now) c.in-Map.members.pairs c.get.ensures
-    ∙ ap (member_of (chars c.args.key.now)) (sym (ap tree_of c.in-Map.is ∙ tree_of-Map c.in-Map.members))
+    ∙ ap (member_of (chars c.args.key.now))
+    (sym (ap tree_of c.in-Map.is ∙ tree_of-Map c.in-Map.members))
