@@ -11,4 +11,16 @@ line_of (Command value ignored) = command (tree_of value) ignored
 line_of (Event number name) = event number name
 line_of (Model value) = model (tree_of value)
 line_of (End steps jobs events starts ok fail denied faults) =
-    finish (record { steps = steps; jobs = jobs; events = events; starts = starts; ok = ok; fail = fail; denied = denied; faults = faults })
+    finish (record {
+      steps =
+          steps;
+      jobs =
+          jobs;
+      events =
+          events;
+      starts = starts;
+      ok = ok;
+      fail = fail;
+      denied = denied;
+      faults = faults;
+    })

@@ -1,5 +1,6 @@
 -- The lines of the log and their text.
-use Rattle.std.specs.Prelude.{ℕ, List, [], ◌∷◌, ◌++◌, Bool, codes, decimal, encode_utf8_all, if◌then◌else◌}
+use Rattle.std.specs.Prelude.{ℕ, List, [], ◌∷◌, ◌++◌, Bool, codes, decimal, encode_utf8_all}
+use Rattle.std.specs.Prelude.{if◌then◌else◌}
 use Rattle.gtm_data.specs.Tree.{Tree}
 use Rattle.gtm_data.specs.JsonText.{json_text, quoted}
 

@@ -1,7 +1,8 @@
-ghost use Rattle.std.specs.Prelude.{◌≡◌, ◌≤◌, ◌++◌, ◌∷◌, [], codes, decimal, IsTrue, OnOk, IfOk, IsErrOf};
+ghost use Rattle.std.specs.Prelude.{◌≡◌, ◌++◌, ◌∷◌, [], codes, decimal, IsTrue, OnOk, IfOk};
+ghost use Rattle.std.specs.Prelude.{IsErrOf};
 ghost use Rattle.gtm_base.specs.Ascii.{is_all_ascii};
-ghost use Rattle.gtm_base.specs.Causes.{Rose};
-ghost use Rattle.gtm_base.specs.Outside.{and_then, TookFront};
+ghost use Rattle.gtm_base.specs.Outside.{Writes};
+ghost use Rattle.run_log.specs.LineFault.{is_line_fault};
 ghost use Rattle.run_log.specs.LineOf.{line_of};
 ghost use Rattle.gtm_data.specs.JsonText.{json_text};
 ghost use Rattle.gtm_data.specs.Tree.{tree_of};
@@ -40,12 +41,9 @@ impl From<OutOfMemory> for LineEnd {
 /// `SinkFault` comes only with a rise of the sink's count.
 #[tactic(auto, unfolding(crate::specs::Lines::line_bytes))]
 pub fn put_line<S: Sink>(alloc: Global, line: &Line, out: &mut S) -> Result<(), LineEnd>
-    ensures ok { OnOk result (S.taken out.new ≡ and_then (S.taken out.old) (line_bytes (line_of line.now))) }
-    ensures front { TookFront (S.taken out.old) (S.taken out.new) (line_bytes (line_of line.now)) }
-    ensures memory { IsErrOf result LineEnd.OutOfMemory → S.taken out.new ≡ S.taken out.old }
-    ensures later { S.faults out.old ≤ S.faults out.new }
-    ensures failed { IsErrOf result LineEnd.SinkFault → Rose (S.faults out.old) (S.faults out.new) }
-    ensures kept { OnOk result (S.faults out.new ≡ S.faults out.old) }
+    ensures out { Writes is_line_fault result (S.state out.old) (S.state out.new)
+        (line_bytes (line_of line.now)) }
+    ensures memory { IsErrOf result LineEnd.OutOfMemory → S.state out.new ≡ S.state out.old }
 {
     let text = whole_line(alloc, line)?;
     match put(out, text.as_str().as_bytes()) {
@@ -104,7 +102,8 @@ fn write_line(text: &mut Text, line: &Line) -> Result<(), OutOfMemory>
 // A word and a value, with ` ignored` behind where it was ignored.
 fn write_job(text: &mut Text, word: &str, value: &Data, ignored: bool) -> Result<(), OutOfMemory>
     requires { IsTrue (is_all_ascii word.now) }
-    ensures { OnOk result (text.new ≡ text.old ++ word.now ++ json_text (tree_of value.now) ++ ignored_word ignored) }
+    ensures { OnOk result
+        (text.new ≡ text.old ++ word.now ++ json_text (tree_of value.now) ++ ignored_word ignored) }
 {
     text.push_word(word)?;
     write_json(text, value)?;
