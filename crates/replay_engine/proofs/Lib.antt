@@ -1,0 +1,4 @@
+pub mod JobTurns
+pub mod LogLines
+pub mod Openings
+pub mod Runs

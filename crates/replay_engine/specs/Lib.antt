@@ -1,0 +1,6 @@
+pub mod EngineState
+pub mod Jobs
+pub mod Messages
+pub mod Run
+pub mod RunFault
+pub mod Views
