@@ -1,129 +1,187 @@
--- The first line of the bytes that are left of a trace.
-use Rattle.std.proofs.Common.{◌≡◌, ◌∙◌, ap, sym, refl, ℕ, zero, suc, ◌+◌, ◌≤◌, ◌<◌, List, [], ◌∷◌, ◌++◌, length, take, drop, append-nil, length-append, length-take, add-one, subst, Bool, true, false, arith, inl, inr}
-use Rattle.std.specs.Prelude.{◌⊎◌, ◌==◌, ◌||◌, nat_lt, if◌then◌else◌}
-use Rattle.std.specs.List.{slice_split, onto_first}
+-- The first line of the bytes that are held.
+use Rattle.std.proofs.Common.{◌≡◌, ◌∙◌, ap, sym, refl, ℕ, zero, suc, ◌+◌, ◌≤◌, ◌<◌, List, [], ◌∷◌}
+use Rattle.std.proofs.Common.{◌++◌, length, take, drop, append_assoc, append-nil, length-append}
+use Rattle.std.proofs.Common.{length-take, add-one, subst, Bool, true, false, arith, inl, inr}
+use Rattle.std.specs.Prelude.{◌⊎◌, ◌==◌, ◌||◌, nat_lt, IsTrue}
+use Rattle.std.proofs.lemmas.Bool.{eqb-true}
 use Rattle.std.proofs.lemmas.Bool.Decides.{nat_tests}
 use Rattle.std.proofs.Math.Seq.{take-length, drop-length}
 use Rattle.memchr.specs.Find.{Passes, NoneBefore, is_byte}
-use Rattle.trace_lines.specs.Holding.{HasNoEnd}
-use Rattle.trace_lines.specs.Lines.{TraceLine, is_too_long, last_line, lines_in, lines}
-
--- the pieces between the LFs of these bytes
-abbrev pieces_of : List ℕ → List (List ℕ)
-pieces_of bytes = slice_split (λ b. b == 10) bytes
-
--- the same pieces, with these bytes before the first
-abbrev behind : List ℕ → List (List ℕ) → List (List ℕ)
-behind front [] = front ∷ []
-behind front (piece ∷ pieces) = (front ++ piece) ∷ pieces
-
-behind_nothing_at : (test : Bool) (b : ℕ) (pieces : List (List ℕ)) → behind [] (if test then [] ∷ pieces else onto_first b pieces) ≡ (if test then [] ∷ pieces else onto_first b pieces)
-behind_nothing_at true b pieces = refl
-behind_nothing_at false b [] = refl
-behind_nothing_at false b (piece ∷ pieces) = refl
-
-behind_nothing : (bytes : List ℕ) → behind [] (pieces_of bytes) ≡ pieces_of bytes
-behind_nothing [] = refl
-behind_nothing (b ∷ bytes) = behind_nothing_at (b == 10) b (pieces_of bytes)
-
-behind_one : (b : ℕ) (front : List ℕ) (pieces : List (List ℕ)) → onto_first b (behind front pieces) ≡ behind (b ∷ front) pieces
-behind_one b front [] = refl
-behind_one b front (piece ∷ pieces) = refl
+use Rattle.trace_lines.specs.Holding.{HasNoEnd, first_line}
+use Rattle.trace_lines.specs.Lines.{TraceLine, bytes_of_line, is_too_long, last_line, lines}
+use Rattle.trace_lines.specs.Lines.{size_of}
+use Rattle.trace_lines.specs.Reading.{Position}
+use Rattle.trace_lines.specs.declared.lines.TheConstants.{MAX_LINE, MAX_TRACE}
+use Rattle.trace_lines.proofs.Cuts.{Parts, bare-append, is_bare, lines_bare, lines_ended, lines-nil}
+use Rattle.trace_lines.proofs.Cuts.{parts_of}
 
 not_true : (test : Bool) → (test ≡ true → ⊥) → test ≡ false
 not_true true untrue = absurd (untrue refl)
 not_true false untrue = refl
 
--- bytes with no LF stand before the first piece of those behind them
-pieces_behind : (at : ℕ) (held rest : List ℕ) → at ≤ length held → HasNoEnd held at → pieces_of (held ++ rest) ≡ behind (take at held) (pieces_of (drop at held ++ rest))
-pieces_behind zero held rest within none = sym (behind_nothing (held ++ rest))
-pieces_behind (suc at) [] rest within none = absurd (omega arith)
-pieces_behind (suc at) (b ∷ held) rest within none =
+-- no LF is in front of where none was found
+pub bare_front : (at : ℕ) (held : List ℕ) → at ≤ length held → HasNoEnd held at
+    → is_bare (take at held) ≡ true
+bare_front zero held within none = refl
+bare_front (suc at) [] within none = absurd (omega arith)
+bare_front (suc at) (b ∷ held) within none =
     let here : (b == 10) ≡ false = not_true (b == 10) (none 0 (omega arith) (omega arith)) in
-    let later : HasNoEnd held at = λ k low high passes. none (suc k) (omega arith) (omega arith) passes in
-    rw here (ap (onto_first b) (pieces_behind at held rest (omega arith) later) ∙ behind_one b (take at held) (pieces_of (drop at held ++ rest)))
+    let later : HasNoEnd held at =
+    λ k low high passes. none (suc k) (omega arith) (omega arith) passes in
+    rw here (bare_front at held (omega arith) later)
 
--- there is always a piece
-onto_some : (b : ℕ) (pieces : List (List ℕ)) → onto_first b pieces ≡ [] → ⊥
-onto_some b [] e = cc
-onto_some b (piece ∷ pieces) e = cc
+pub bare_whole : (held : List ℕ) → HasNoEnd held (length held) → is_bare held ≡ true
+bare_whole held none =
+    subst (λ bytes. is_bare bytes ≡ true) (take-length held)
+    (bare_front (length held) held (omega arith) none)
 
-some_piece_at : (test : Bool) (b : ℕ) (pieces : List (List ℕ)) → (if test then [] ∷ pieces else onto_first b pieces) ≡ [] → ⊥
-some_piece_at true b pieces e = cc
-some_piece_at false b pieces e = onto_some b pieces e
+-- the bytes round an LF
+cut_at : (at : ℕ) (held : List ℕ) → at < length held → Passes (is_byte 10) held at
+    → held ≡ take at held ++ 10 ∷ drop (suc at) held
+cut_at at [] within is = absurd (omega arith)
+cut_at zero (b ∷ held) within is = ap (λ c. c ∷ held) (eqb-true b 10 is)
+cut_at (suc at) (b ∷ held) within is = ap (λ bytes. b ∷ bytes) (cut_at at held (omega arith) is)
 
-some_piece : (bytes : List ℕ) → pieces_of bytes ≡ [] → ⊥
-some_piece [] e = cc
-some_piece (b ∷ bytes) e = some_piece_at (b == 10) b (pieces_of bytes) e
-
--- a piece that has an LF behind it is a line
-line_before : (text : List ℕ) (pieces : List (List ℕ)) → (pieces ≡ [] → ⊥) → lines_in (text ∷ pieces) ≡ record { text = text; size = length text + 1 } ∷ lines_in pieces
-line_before text [] some = absurd (some refl)
-line_before text (piece ∷ pieces) some = refl
-
--- from an LF on there is an empty piece, and then those behind it
-pieces_at : (at : ℕ) (held rest : List ℕ) → at < length held → Passes (is_byte 10) held at → pieces_of (drop at held ++ rest) ≡ [] ∷ pieces_of (drop (suc at) held ++ rest)
-pieces_at at [] rest within is = absurd (omega arith)
-pieces_at zero (b ∷ held) rest within is = rw is
-pieces_at (suc at) (b ∷ held) rest within is = pieces_at at held rest (omega arith) is
+-- what is held begins with this line
+pub record Begins (position : Position) (len size : ℕ) : Type 0 where
+  pub lines_are : (rest : List ℕ) → (IsTrue position.at_end → rest ≡ [])
+      → lines (position.held ++ rest)
+      ≡ first_line position len size ∷ lines (drop size position.held ++ rest)
+  pub bytes_are : position.held
+      ≡ bytes_of_line (first_line position len size) ++ drop size position.held
+  pub len_is : length (take len position.held) ≡ len
+  pub size_is : size_of (first_line position len size) ≡ size
+  pub some : 0 < size
+  pub ended : (IsTrue (nat_lt len size)) ⊎ (IsTrue position.at_end × (drop size position.held ≡ []))
 
 length_front : (at : ℕ) (held : List ℕ) → at ≤ length held → length (take at held) ≡ at
 length_front at held within = length-take at held ∙ omega arith
 
+less_more : (n : ℕ) → nat_lt n (n + 1) ≡ true
+less_more n = grind (arith, nat_tests)
+
+less_same : (n : ℕ) → nat_lt n n ≡ false
+less_same n = grind (arith, nat_tests)
+
+ended_bytes : (text : List ℕ) (test : Bool) → test ≡ true
+    → bytes_of_line (record { text = text; ended = test }) ≡ text ++ 10 ∷ []
+ended_bytes text test is = rw is refl
+
+last_bytes : (text : List ℕ) (test : Bool) → test ≡ false
+    → bytes_of_line (record { text = text; ended = test }) ≡ text
+last_bytes text test is = rw is (append-nil text)
+
 -- the first LF ends the first line
-pub ended_line : (at : ℕ) (held rest : List ℕ) → NoneBefore (Passes (is_byte 10) held) 0 (length held) at × Passes (is_byte 10) held at
-    → lines (held ++ rest) ≡ record { text = take at held; size = at + 1 } ∷ lines (drop (at + 1) held ++ rest)
-unfolding lines
-ended_line at held rest found =
-    let within : at ≤ length held = omega (arith, found.0.high) in
-    let later : List ℕ = drop (suc at) held ++ rest in
-    let cut : pieces_of (held ++ rest) ≡ (take at held ++ []) ∷ pieces_of later =
-    pieces_behind at held rest within found.0.before ∙ ap (behind (take at held)) (pieces_at at held rest found.0.high found.1) in
-    ap lines_in cut
-    ∙ line_before (take at held ++ []) (pieces_of later) (some_piece later)
-    ∙ (λ i. record { text = append-nil (take at held) i; size = (ap (λ xs. length xs + 1) (append-nil (take at held)) ∙ ap (λ n. n + 1) (length_front at held within)) i } ∷ lines_in (pieces_of (drop (sym (add-one at) i) held ++ rest)))
+pub ended_line : (at : ℕ) (position : Position)
+    → NoneBefore (Passes (is_byte 10) position.held) 0 (length position.held) at
+    × Passes (is_byte 10) position.held at → Begins position at (at + 1)
+ended_line at position found =
+    let held = position.held in
+    let within : at < length held = omega (arith, found.0.high) in
+    let bare : is_bare (take at held) ≡ true = bare_front at held (omega arith) found.0.before in
+    let cut : held ≡ take at held ++ 10 ∷ drop (at + 1) held =
+    subst (λ n. held ≡ take at held ++ 10 ∷ drop n held) (sym (add-one at))
+    (cut_at at held within found.1) in
+    let long : length (take at held) ≡ at = length_front at held (omega arith) in
+    let is_ended : nat_lt at (at + 1) ≡ true = less_more at in
+    let bytes : bytes_of_line (first_line position at (at + 1)) ≡ take at held ++ 10 ∷ [] =
+    ended_bytes (take at held) (nat_lt at (at + 1)) is_ended in
+    record {
+      lines_are = λ rest end.
+          ap (λ bs. lines (bs ++ rest)) cut
+          ∙ ap lines (append_assoc (take at held) (10 ∷ drop (at + 1) held) rest)
+          ∙ lines_ended (take at held) (drop (at + 1) held ++ rest) bare
+          ∙ ap (λ e. record { text = take at held; ended = e } ∷ lines (drop (at + 1) held ++ rest))
+          (sym is_ended);
+      bytes_are =
+          cut ∙ sym (ap (λ bs. bs ++ drop (at + 1) held) bytes
+          ∙ append_assoc (take at held) (10 ∷ []) (drop (at + 1) held));
+      len_is = long;
+      size_is = ap length bytes ∙ length-append (take at held) (10 ∷ []) ∙ ap (λ n. n + 1) long;
+      some = omega arith;
+      ended = inl is_ended;
+    }
 
-whole_behind : (held rest : List ℕ) → HasNoEnd held (length held) → pieces_of (held ++ rest) ≡ behind held (pieces_of rest)
-whole_behind held rest none = pieces_behind (length held) held rest (omega arith) none ∙ (λ i. behind (take-length held i) (pieces_of (drop-length held i ++ rest)))
+last_is : (bytes : List ℕ) → 0 < length bytes
+    → last_line bytes ≡ record { text = bytes; ended = false } ∷ []
+last_is [] some = absurd (omega arith)
+last_is (b ∷ bytes) some = refl
 
--- bytes with no LF are the only line, where nothing stands behind them
-pub only_line : (held : List ℕ) (len : ℕ) → len ≡ length held → 0 < len → HasNoEnd held (length held)
-    → lines (held ++ []) ≡ record { text = take len held; size = len } ∷ lines (drop len held ++ [])
-unfolding lines
-only_line [] len is some none = absurd (omega arith)
-only_line (b ∷ bytes) len is some none =
-    let held : List ℕ = b ∷ bytes in
-    rw is
-    (ap lines_in (whole_behind (b ∷ bytes) [] none)
-    ∙ (λ i. record { text = (append-nil held ∙ sym (take-length held)) i; size = length (append-nil held i) } ∷ lines_in (pieces_of (sym (drop-length held) i ++ []))))
+only_line : (held rest : List ℕ) → rest ≡ [] → 0 < length held → is_bare held ≡ true
+    → lines (held ++ rest) ≡ record { text = held; ended = false } ∷ lines ([] ++ rest)
+only_line held rest none some bare =
+    rw none
+    (ap lines (append-nil held) ∙ lines_bare held bare ∙ last_is held some
+    ∙ ap (λ ls. record { text = held; ended = false } ∷ ls) (sym lines-nil))
+
+-- behind the end of the file, bytes with no LF are the last line
+pub last_begins : (position : Position) (len : ℕ) → IsTrue position.at_end
+    → len ≡ length position.held → 0 < len → HasNoEnd position.held (length position.held)
+    → Begins position len len
+last_begins position len at_end is some none =
+    let held = position.held in
+    let bare = bare_whole held none in
+    let front : take len held ≡ held = ap (λ n. take n held) is ∙ take-length held in
+    let behind : drop len held ≡ [] = ap (λ n. drop n held) is ∙ drop-length held in
+    let not_ended : nat_lt len len ≡ false = less_same len in
+    let bytes : bytes_of_line (first_line position len len) ≡ take len held =
+    last_bytes (take len held) (nat_lt len len) not_ended in
+    record {
+      lines_are = λ rest end.
+          only_line held rest (end at_end) (omega arith) bare
+          ∙ (λ i. record { text = sym front i; ended = sym not_ended i }
+          ∷ lines (sym behind i ++ rest));
+      bytes_are = sym (append-nil held) ∙ (λ i. sym (bytes ∙ front) i ++ sym behind i);
+      len_is = ap length front ∙ sym is;
+      size_is = ap length (bytes ∙ front) ∙ sym is;
+      some = some;
+      ended = inr (at_end, behind);
+    }
 
 -- the first of these lines begins with so many bytes
-pub record Begins (front : List ℕ) (all : List TraceLine) : Type 0 where
+pub record IsLong (front : List ℕ) (all : List TraceLine) : Type 0 where
   pub line : TraceLine
   pub others : List TraceLine
   pub first : all ≡ line ∷ others
   pub text : length front ≤ length line.text
-  pub size : length front ≤ line.size
 
-begins_last : (front piece : List ℕ) → 0 < length front → Begins front (last_line (front ++ piece))
-begins_last [] piece some = absurd (omega arith)
-begins_last (b ∷ front) piece some =
-    let long = length-append (b ∷ front) piece in
-    record { line = _; others = []; first = refl; text = omega (arith, long); size = omega (arith, long) }
+long_last : (front rest : List ℕ) → 0 < length front → is_bare front ≡ true → is_bare rest ≡ true
+    → IsLong front (lines (front ++ rest))
+long_last front rest some bare others =
+    let long = length-append front rest in
+    record {
+      line = record { text = front ++ rest; ended = false };
+      others = [];
+      first =
+          lines_bare (front ++ rest) (bare-append front rest bare others)
+          ∙ last_is (front ++ rest) (omega (arith, long));
+      text = omega (arith, long);
+    }
 
-begins_in : (front : List ℕ) (pieces : List (List ℕ)) → (pieces ≡ [] → ⊥) → 0 < length front → Begins front (lines_in (behind front pieces))
-begins_in front [] some long = absurd (some refl)
-begins_in front (piece ∷ []) some long = begins_last front piece long
-begins_in front (piece ∷ next ∷ pieces) some long =
-    let longer = length-append front piece in
-    record { line = _; others = _; first = refl; text = omega (arith, longer); size = omega (arith, longer) }
+long_ended : (front rest : List ℕ) → is_bare front ≡ true → Parts rest
+    → IsLong front (lines (front ++ rest))
+long_ended front rest bare parts =
+    let long = length-append front parts.text in
+    record {
+      line = record { text = front ++ parts.text; ended = true };
+      others = lines parts.rest;
+      first =
+          ap (λ bytes. lines (front ++ bytes)) parts.whole
+          ∙ ap lines (sym (append_assoc front parts.text (10 ∷ parts.rest)))
+          ∙ lines_ended (front ++ parts.text) parts.rest
+          (bare-append front parts.text bare parts.bare);
+      text = omega (arith, long);
+    }
+
+long_at : (front rest : List ℕ) → 0 < length front → is_bare front ≡ true
+    → (is_bare rest ≡ true) ⊎ Parts rest → IsLong front (lines (front ++ rest))
+long_at front rest some bare (inl others) = long_last front rest some bare others
+long_at front rest some bare (inr parts) = long_ended front rest bare parts
 
 -- bytes with no LF begin the first line, whatever stands behind them
-pub begins : (held rest : List ℕ) → 0 < length held → HasNoEnd held (length held) → Begins held (lines (held ++ rest))
-unfolding lines
-begins held rest some none =
-    let P : List (List ℕ) → Type 0 = λ pieces. Begins held (lines_in pieces) in
-    subst P (sym (whole_behind held rest none)) (begins_in held (pieces_of rest) (some_piece rest) some)
+pub begins_long : (front rest : List ℕ) → 0 < length front → HasNoEnd front (length front)
+    → IsLong front (lines (front ++ rest))
+begins_long front rest some none = long_at front rest some (bare_whole front none) (parts_of rest)
 
 or_true : (a b : Bool) → b ≡ true → (a || b) ≡ true
 or_true true b is = refl
@@ -132,8 +190,17 @@ or_true false b is = is
 true_or : (a b : Bool) → a ≡ true → (a || b) ≡ true
 true_or a b is = ap (λ x. x || b) is
 
+size_least : (line : TraceLine) → length line.text ≤ size_of line
+size_least line = omega (arith, length-append {A = ℕ})
+
 -- a line that begins with too many bytes is too long
-pub long_line : (before : ℕ) (front : List ℕ) (line : TraceLine) → length front ≤ length line.text → length front ≤ line.size
-    → (1048576 < length front) ⊎ (67108864 < before + length front) → is_too_long before line ≡ true
-long_line before front line text size (inl much) = true_or (nat_lt 1048576 (length line.text)) (nat_lt 67108864 (before + line.size)) (grind (arith, nat_tests))
-long_line before front line text size (inr much) = or_true (nat_lt 1048576 (length line.text)) (nat_lt 67108864 (before + line.size)) (grind (arith, nat_tests))
+pub long_line : (before : ℕ) (front : List ℕ) (line : TraceLine) → length front ≤ length line.text
+    → (MAX_LINE < length front) ⊎ (MAX_TRACE < before + length front)
+    → is_too_long before line ≡ true
+long_line before front line text (inl much) =
+    true_or (nat_lt MAX_LINE (length line.text)) (nat_lt MAX_TRACE (before + size_of line))
+    (grind (arith, nat_tests))
+long_line before front line text (inr much) =
+    let least = size_least line in
+    or_true (nat_lt MAX_LINE (length line.text)) (nat_lt MAX_TRACE (before + size_of line))
+    (grind (arith, nat_tests))

@@ -1,3 +1,6 @@
+pub mod Answering
+pub mod Cuts
 pub mod FirstLine
-pub mod HandedOut
 pub mod LineEnds
+pub mod Shown
+pub mod Waiting

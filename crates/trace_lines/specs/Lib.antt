@@ -2,3 +2,4 @@ pub mod Buffer
 pub mod Holding
 pub mod Lines
 pub mod Reading
+pub mod Standing

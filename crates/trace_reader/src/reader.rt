@@ -1,11 +1,17 @@
-ghost use Rattle.std.specs.Prelude.{◌≡◌, ◌≤◌, ◌<◌, ◌+◌, [], None, Some, Ok, Err, IsTrue, IsSome, IfOk, IfErr, IfSome, IfNone, OnOk, IsErrOf, Contains, if◌then◌else◌};
-ghost use Rattle.gtm_base.specs.Causes.{Rose};
-ghost use Rattle.gtm_base.specs.Outside.{ReadOn};
+ghost use Rattle.std.specs.Prelude.{◌≡◌, ◌≤◌, ◌<◌, ◌+◌, ℕ, List, [], None, Some, Ok, Err, IsTrue};
+ghost use Rattle.std.specs.Prelude.{IsSome, IfOk, IfErr, IfSome, IfNone, OnOk, IsErrOf};
+ghost use Rattle.std.specs.Prelude.{if◌then◌else◌};
+ghost use Rattle.std.specs.Option.{ForSome};
+ghost use Rattle.gtm_base.specs.Outside.{ReadsOn};
 ghost use Rattle.trace_forms.specs.Lines.{line_of};
+ghost use Rattle.trace_forms.specs.Steps.{Step};
 ghost use Rattle.trace_forms.specs.Views.{step_of};
-ghost use Rattle.trace_lines.specs.Reading.{rest_of};
-ghost use Rattle.trace_reader.specs.Progress.{trace_left, Tells, Judged, Moves};
-ghost use Rattle.trace_reader.specs.Trace.{built, built_reading};
+ghost use Rattle.trace_lines.specs.declared.lines.TheConstants.{MAX_TRACE};
+ghost use Rattle.trace_reader.specs.Progress.{Judged, Moves, Tells, at_start, before_of};
+ghost use Rattle.trace_reader.specs.Progress.{fault_after, is_at_end, is_fault, trace_left};
+ghost use Rattle.trace_reader.specs.Progress.{HoldsNoLine};
+ghost use Rattle.trace_reader.specs.Standing.{Leads, StandsAt};
+ghost use Rattle.trace_reader.specs.Trace.{built, built_reading, trace_of};
 
 use gtm_base::{Files, OutOfMemory};
 use std::alloc::Global;
@@ -20,7 +26,10 @@ pub enum TraceEnd {
     OutOfMemory,
     /// A read of the file failed.
     ReadFault,
-    /// The line with this number, from 1, is bad: this is the least rule that it breaks. Rule 1: it has over 1,048,576 bytes without its LF, or does not end within the first 67,108,864 bytes of the trace; 2 to 7 are those of `trace_forms`; 8: a step that is not run yet.
+    /// The line with this number, from 1, is bad: this is the least rule that it breaks. Rule 1: it
+    /// has over `trace_lines::MAX_LINE` bytes without its LF, or does not end within the first
+    /// `trace_lines::MAX_TRACE` bytes of the trace; 2 to 7 are those of `trace_forms`; 8: a step
+    /// that is not run yet.
     Refused { line: u64, rule: u8 },
 }
 
@@ -40,7 +49,11 @@ impl Model for Reader {
 
     ghost Value = { Progress };
 
-    ghost view = { λ reader. record { position = reader.lines; lines = reader.count; ended = reader.ended } };
+    ghost view = { λ reader. record {
+      position = reader.lines;
+      lines = reader.count;
+      ended = reader.ended;
+    } };
 
     ghost invariant = { λ reader. reader.count ≤ reader.lines.before };
 }
@@ -48,7 +61,9 @@ impl Model for Reader {
 impl Reader {
     /// At the start of a trace. Takes no memory.
     pub fn new(alloc: Global) -> Reader
-        ensures { result ≡ record { position = record { line = []; held = []; before = 0 }; lines = 0; ended = None } }
+        ensures value { result ≡ at_start }
+        ensures whole { (bytes : List ℕ) → trace_left result (Some bytes) ≡ Some (trace_of bytes) }
+        ensures start { (bytes : List ℕ) → StandsAt bytes [] result bytes }
     {
         Reader {
             alloc,
@@ -60,24 +75,32 @@ impl Reader {
 
     /// The next step of the open trace, or `None` at its end.
     ///
-    /// `Refused` comes exactly at the first bad line, when the steps before it were handed out. `ReadFault` comes only with a rise of the files' count, and when the steps of all lines whose LF was read were handed out. After an error each later call answers the same and reads nothing.
+    /// `Refused` comes exactly at the first bad line, when the steps before it were handed out.
+    /// `ReadFault` comes only with a rise of the files' count, and when the steps of all lines
+    /// whose LF was read were handed out. Once a read met the end of the file, nothing is read.
+    /// After an error each later call answers the same and reads nothing.
     pub fn next_step<F: Files>(&mut self, files: &mut F) -> Result<Option<TraceStep>, TraceEnd>
-        requires open { IsTrue (F.is_open files.old) }
-        ensures open { IsTrue (F.is_open files.new) }
-        ensures held { F.held files.new ≡ F.held files.old }
-        ensures open_name { F.open_name files.new ≡ F.open_name files.old }
-        ensures names { F.names files.new ≡ F.names files.old }
-        ensures later { F.faults files.old ≤ F.faults files.new }
-        ensures read_on { ReadOn (F.left files.old) (F.left files.new) }
-        ensures kept { OnOk result (F.faults files.new ≡ F.faults files.old) }
-        ensures again { IfSome self.old.ended (λ end. (result ≡ Err end) × (self.new ≡ self.old) × (files.new ≡ files.old)) }
-        ensures told { IfNone self.old.ended (IfSome (trace_left self.old (F.left files.old)) (λ trace. Tells result trace (trace_left self.new (F.left files.new)))) }
-        ensures failed { IfNone self.old.ended (IsErrOf result TraceEnd.ReadFault → Rose (F.faults files.old) (F.faults files.new)) }
-        ensures unread { IfNone self.old.ended (IsErrOf result TraceEnd.ReadFault → ¬ Contains self.new.position.held 10) }
+        requires { IsTrue (F.state files.old).is_open }
+        ensures files { ReadsOn (fault_after self.old.ended) result
+            (F.state files.old) (F.state files.new) }
+        ensures again { IfSome self.old.ended
+            (λ end. (result ≡ Err end) × (self.new ≡ self.old) × (files.new ≡ files.old)) }
+        ensures told { IfNone self.old.ended (Tells result
+            (trace_left self.old (F.state files.old).left)
+            (trace_left self.new (F.state files.new).left)) }
+        ensures stands { (bytes : List ℕ) (done : List Step)
+            → ForSome (F.state files.old).left (StandsAt bytes done self.old)
+            → ForSome (F.state files.new).left (Leads result bytes done self.new) }
+        ensures unread { IfNone self.old.ended
+            (IsErrOf result TraceEnd.ReadFault → HoldsNoLine self.new) }
         ensures ended { IfErr result (λ end. self.new.ended ≡ Some end) }
         ensures goes_on { OnOk result (self.new.ended ≡ None) }
-        ensures onward { IfOk result (λ step. IsSome step → self.old.position.before < self.new.position.before) }
-        ensures within { OnOk result (self.new.position.before ≤ 67108864) }
+        ensures end { result ≡ Ok None → IsTrue (is_at_end self.new) }
+        ensures behind_end { IfNone self.old.ended (IsTrue (is_at_end self.old)
+            → (files.new ≡ files.old) × ¬ IsErrOf result TraceEnd.ReadFault) }
+        ensures onward { IfOk result
+            (λ step. IsSome step → before_of self.old < before_of self.new) }
+        ensures within { OnOk result (before_of self.new ≤ MAX_TRACE) }
     {
         if let Some(end) = self.ended {
             return Err(end);
@@ -91,20 +114,22 @@ impl Reader {
 
     // The next step of a trace that has not ended.
     fn read_on<F: Files>(&mut self, files: &mut F) -> Result<Option<TraceStep>, TraceEnd>
-        requires open { IsTrue (F.is_open files.old) }
-        ensures open { IsTrue (F.is_open files.new) }
-        ensures held { F.held files.new ≡ F.held files.old }
-        ensures open_name { F.open_name files.new ≡ F.open_name files.old }
-        ensures names { F.names files.new ≡ F.names files.old }
-        ensures later { F.faults files.old ≤ F.faults files.new }
-        ensures read_on { ReadOn (F.left files.old) (F.left files.new) }
-        ensures kept { OnOk result (F.faults files.new ≡ F.faults files.old) }
-        ensures failed { IsErrOf result TraceEnd.ReadFault → Rose (F.faults files.old) (F.faults files.new) }
-        ensures told { IfSome (trace_left self.old (F.left files.old)) (λ trace. Tells result trace (trace_left self.new (F.left files.new))) }
-        ensures unread { IsErrOf result TraceEnd.ReadFault → ¬ Contains self.new.position.held 10 }
+        requires { IsTrue (F.state files.old).is_open }
+        ensures files { ReadsOn is_fault result (F.state files.old) (F.state files.new) }
+        ensures told { Tells result
+            (trace_left self.old (F.state files.old).left)
+            (trace_left self.new (F.state files.new).left) }
+        ensures stands { (bytes : List ℕ) (done : List Step)
+            → ForSome (F.state files.old).left (StandsAt bytes done self.old)
+            → ForSome (F.state files.new).left (Leads result bytes done self.new) }
+        ensures unread { IsErrOf result TraceEnd.ReadFault → HoldsNoLine self.new }
         ensures ended { self.new.ended ≡ self.old.ended }
-        ensures onward { IfOk result (λ step. IsSome step → self.old.position.before < self.new.position.before) }
-        ensures within { OnOk result (self.new.position.before ≤ 67108864) }
+        ensures end { result ≡ Ok None → IsTrue (is_at_end self.new) }
+        ensures behind_end { IsTrue (is_at_end self.old)
+            → (files.new ≡ files.old) × ¬ IsErrOf result TraceEnd.ReadFault }
+        ensures onward { IfOk result
+            (λ step. IsSome step → before_of self.old < before_of self.new) }
+        ensures within { OnOk result (before_of self.new ≤ MAX_TRACE) }
     {
         loop {
             match self.next_line(files) {
@@ -122,21 +147,17 @@ impl Reader {
 
     // Reads the next line, or answers false at the end of the trace.
     fn next_line<F: Files>(&mut self, files: &mut F) -> Result<bool, TraceEnd>
-        requires open { IsTrue (F.is_open files.old) }
-        ensures open { IsTrue (F.is_open files.new) }
-        ensures held { F.held files.new ≡ F.held files.old }
-        ensures open_name { F.open_name files.new ≡ F.open_name files.old }
-        ensures names { F.names files.new ≡ F.names files.old }
-        ensures later { F.faults files.old ≤ F.faults files.new }
-        ensures read_on { ReadOn (F.left files.old) (F.left files.new) }
-        ensures kept { OnOk result (F.faults files.new ≡ F.faults files.old) }
-        ensures failed { IsErrOf result TraceEnd.ReadFault → Rose (F.faults files.old) (F.faults files.new) }
-        ensures moves { IfSome (rest_of self.old.position (F.left files.old)) (λ bytes. Moves result self.old self.new bytes (rest_of self.new.position (F.left files.new))) }
-        ensures onward { IfOk result (λ more. IsTrue more → self.old.position.before < self.new.position.before) }
-        ensures within { self.new.position.before ≤ 67108864 }
-        ensures lines { IfOk result (λ more. self.new.lines ≡ (if more then self.old.lines + 1 else self.old.lines)) }
-        ensures unread { IsErrOf result TraceEnd.ReadFault → ¬ Contains self.new.position.held 10 }
+        requires { IsTrue (F.state files.old).is_open }
+        ensures files { ReadsOn is_fault result (F.state files.old) (F.state files.new) }
+        ensures moves { Moves result self.old self.new
+            (F.state files.old).left (F.state files.new).left }
+        ensures lines { IfOk result
+            (λ more. self.new.lines ≡ (if more then self.old.lines + 1 else self.old.lines)) }
+        ensures kept { IsErrOf result TraceEnd.ReadFault → self.new.lines ≡ self.old.lines }
+        ensures unread { IsErrOf result TraceEnd.ReadFault → HoldsNoLine self.new }
+        ensures within { before_of self.new ≤ MAX_TRACE }
         ensures ended { self.new.ended ≡ self.old.ended }
+        ensures behind_end { IsTrue (is_at_end self.old) → files.new ≡ files.old }
     {
         match self.lines.next_line(files) {
             Ok(true) => {
@@ -155,7 +176,8 @@ impl Reader {
 
     // What the line that was read last asks for, or none where it is blank.
     fn step(&self) -> Result<Option<TraceStep>, TraceEnd>
-        ensures { Judged result self.now.lines (built_reading (line_of self.now.position.line)) }
+        ensures { Judged result self.now.lines
+            (built_reading (line_of self.now.position.line.text)) }
     {
         match read_line(self.alloc, self.lines.line()) {
             Err(OutOfMemory) => Err(TraceEnd::OutOfMemory),

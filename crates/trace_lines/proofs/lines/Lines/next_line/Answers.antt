@@ -1,101 +1,155 @@
-use Rattle.std.proofs.Common.{◌<◌, ℕ, rules, sym, ap, ◌∙◌, arith}
-use Rattle.std.specs.Prelude.{IsErrOf, Err}
-use Rattle.trace_lines.specs.declared.lines.LineEnd.TheVariants.{ReadFault}
-use Rattle.trace_lines.specs.Holding.{room_behind}
-use Rattle.trace_lines.specs.Reading.{rest_of}
-use Rattle.trace_lines.proofs.FirstLine.{ended_line}
-use Rattle.trace_lines.proofs.HandedOut.{goes_on, handed, last_is, no_room, read_on, refused, unread}
+use Rattle.std.proofs.Common.{◌≡◌, ◌<◌, ◌+◌, ◌∙◌, Bool, length, ap, sym, subst, refl, rules, arith}
+use Rattle.std.specs.Prelude.{Ok, Err, Result}
+use Rattle.gtm_base.specs.Causes.{has_failed}
+use Rattle.gtm_base.proofs.ReadPieces.{reads_then}
+use Rattle.trace_lines.specs.Holding.{HasNoEnd, IsWithin}
+use Rattle.trace_lines.specs.Reading.{is_read_fault}
+use Rattle.trace_lines.specs.declared.lines.LineEnd.{LineEnd}
+use Rattle.trace_lines.proofs.Answering.{Answer, ends, fails, handed_out, no_room, nothing_held}
+use Rattle.trace_lines.proofs.FirstLine.{Begins, ended_line, last_begins}
+use Rattle.trace_lines.proofs.Waiting.{IsWaiting, not_both, waits}
 use Rattle.trace_lines.proofs.lines.Lines.next_line.Goals as goal
 
-pub returns-in-Some-clause-line : goal.returns-in-Some-clause-line
-returns-in-Some-clause-line g c =
-    let found = c.in-Some.ensures.first in
-    handed _ c.find_end.new.self _ _ (g.F.Files.left c.loop-at.files) c.in-Some.at _ _
-    (record {
-      rest = rw c.find_end.ensures.same c.loop-at.invariant.rest;
-      before = rw c.find_end.ensures.same c.loop-at.invariant.before;
-      first = λ rest is. rw c.find_end.ensures.same (ended_line c.in-Some.at c.loop-at.self.held rest found);
-    })
-    c.hand_out.ensures.answer c.hand_out.ensures.ok
+pub returns-in-Some-clause-told : goal.returns-in-Some-clause-told
+returns-in-Some-clause-told g c =
+    let back = sym c.find_end.ensures.same in
+    let at = c.in-Some.at in
+    let line =
+    subst (λ p. Begins p at (at + 1)) back
+    (ended_line at c.loop-at.self c.in-Some.ensures.first) in
+    let waiting =
+    subst (λ p.
+    IsWaiting c.args.self.now p (g.F.Files.state c.args.files.now).left
+    (g.F.Files.state c.loop-at.files).left) back c.loop-at.invariant.waiting in
+    (handed_out c.args.self.now c.find_end.new.self _ _ _ at (at + 1) _ waiting line
+    c.hand_out.ensures.answer c.hand_out.ensures.ok c.hand_out.ensures.err
+    c.hand_out.ensures.within).told
 
-pub returns-in-Some-clause-too_long : goal.returns-in-Some-clause-too_long
-returns-in-Some-clause-too_long g c =
-    let found = c.in-Some.ensures.first in
-    refused _ c.find_end.new.self _ (g.F.Files.left c.loop-at.files) c.in-Some.at _ _
-    (record {
-      rest = rw c.find_end.ensures.same c.loop-at.invariant.rest;
-      before = rw c.find_end.ensures.same c.loop-at.invariant.before;
-      first = λ rest is. rw c.find_end.ensures.same (ended_line c.in-Some.at c.loop-at.self.held rest found);
-    })
-    c.hand_out.ensures.answer
+pub returns-in-Some-clause-stands : goal.returns-in-Some-clause-stands
+returns-in-Some-clause-stands g c =
+    let back = sym c.find_end.ensures.same in
+    let at = c.in-Some.at in
+    let line =
+    subst (λ p. Begins p at (at + 1)) back
+    (ended_line at c.loop-at.self c.in-Some.ensures.first) in
+    let waiting =
+    subst (λ p.
+    IsWaiting c.args.self.now p (g.F.Files.state c.args.files.now).left
+    (g.F.Files.state c.loop-at.files).left) back c.loop-at.invariant.waiting in
+    (handed_out c.args.self.now c.find_end.new.self _ _ _ at (at + 1) _ waiting line
+    c.hand_out.ensures.answer c.hand_out.ensures.ok c.hand_out.ensures.err
+    c.hand_out.ensures.within).stands
 
-pub returns-in-Some-clause-goes_on : goal.returns-in-Some-clause-goes_on
-returns-in-Some-clause-goes_on g c =
-    let found = c.in-Some.ensures.first in
-    goes_on c.args.self.now c.find_end.new.self _ _ (g.F.Files.left c.loop-at.files) c.in-Some.at _ _
-    (record {
-      rest = rw c.find_end.ensures.same c.loop-at.invariant.rest;
-      before = rw c.find_end.ensures.same c.loop-at.invariant.before;
-      first = λ rest is. rw c.find_end.ensures.same (ended_line c.in-Some.at c.loop-at.self.held rest found);
-    })
-    c.hand_out.ensures.ok
+pub returns-in-0-clause-stands : goal.returns-in-0-clause-stands
+returns-in-0-clause-stands g c =
+    let back = sym c.find_end.ensures.same in
+    let waiting =
+    subst (λ p.
+    IsWaiting c.args.self.now p (g.F.Files.state c.args.files.now).left
+    (g.F.Files.state c.loop-at.files).left) back c.loop-at.invariant.waiting in
+    let none = nothing_held c.find_end.new.self.held (sym c.held_len.ensures ∙ c.in-0.is) in
+    (ends c.args.self.now c.find_end.new.self _ _ waiting
+    (sym c.is_at_end.ensures ∙ c.if-is_at_end.true) none
+    (subst IsWithin back c.in_default.ensures.within)).stands
 
-pub returns-then-room-eq0-clause-too_long : goal.returns-then-room-eq0-clause-too_long
-returns-then-room-eq0-clause-too_long g c = λ _.
-    no_room _ c.loop-at.self _ (g.F.Files.left c.loop-at.files) c.loop-at.invariant.rest c.loop-at.invariant.before c.in_default.ensures.within c.in_default.ensures.first
-    (ap room_behind (sym c.find_end.ensures.same) ∙ sym c.room-room.ensures ∙ c.if-room-eq0.true)
+pub returns-in_default-held_len-clause-told : goal.returns-in_default-held_len-clause-told
+returns-in_default-held_len-clause-told g c =
+    let back = sym c.find_end.ensures.same in
+    let len = c.held_len.result in
+    let some : 0 < len = omega arith in
+    let none = subst (λ p. HasNoEnd p.held (length p.held)) back c.in_default.ensures.first in
+    let line =
+    last_begins c.find_end.new.self len (sym c.is_at_end.ensures ∙ c.if-is_at_end.true)
+    c.held_len.ensures some none in
+    let waiting =
+    subst (λ p.
+    IsWaiting c.args.self.now p (g.F.Files.state c.args.files.now).left
+    (g.F.Files.state c.loop-at.files).left) back c.loop-at.invariant.waiting in
+    let handed = c.hand_out-in_default-held_len.ensures in
+    (handed_out c.args.self.now c.find_end.new.self _ _ _ len len _ waiting line handed.answer
+    handed.ok handed.err handed.within).told
 
-pub returns-in_err-read_more-clause-read_on : goal.returns-in_err-read_more-clause-read_on
-returns-in_err-read_more-clause-read_on g c = read_on c.loop-at.invariant.read_on c.in_err-read_more.ensures.read_on
+pub returns-in_default-held_len-clause-stands : goal.returns-in_default-held_len-clause-stands
+returns-in_default-held_len-clause-stands g c =
+    let back = sym c.find_end.ensures.same in
+    let len = c.held_len.result in
+    let some : 0 < len = omega arith in
+    let none = subst (λ p. HasNoEnd p.held (length p.held)) back c.in_default.ensures.first in
+    let line =
+    last_begins c.find_end.new.self len (sym c.is_at_end.ensures ∙ c.if-is_at_end.true)
+    c.held_len.ensures some none in
+    let waiting =
+    subst (λ p.
+    IsWaiting c.args.self.now p (g.F.Files.state c.args.files.now).left
+    (g.F.Files.state c.loop-at.files).left) back c.loop-at.invariant.waiting in
+    let handed = c.hand_out-in_default-held_len.ensures in
+    (handed_out c.args.self.now c.find_end.new.self _ _ _ len len _ waiting line handed.answer
+    handed.ok handed.err handed.within).stands
 
-pub returns-in_err-read_more-clause-unread : goal.returns-in_err-read_more-clause-unread
-returns-in_err-read_more-clause-unread g c = λ said.
-    let cause : IsErrOf {T = ℕ} (Err c.in_err-read_more.field-0.0) ReadFault = search rules in
-    let stays = c.in_err-read_more.ensures.stays cause in
-    let same = c.find_end.ensures.same in
-    unread _ c.loop-at.self _ _ (g.F.Files.left c.loop-at.files) _ c.loop-at.invariant.rest c.loop-at.invariant.before c.in_default.ensures.first
-    (stays.0 ∙ ap (λ position. position.held) same) stays.1 (c.in_err-read_more.ensures.before ∙ ap (λ position. position.before) same)
+pub returns-then-room-eq0-clause-told : goal.returns-then-room-eq0-clause-told
+returns-then-room-eq0-clause-told g c =
+    let back = sym c.find_end.ensures.same in
+    let none = subst (λ p. HasNoEnd p.held (length p.held)) back c.in_default.ensures.first in
+    let waiting =
+    subst (λ p.
+    IsWaiting c.args.self.now p (g.F.Files.state c.args.files.now).left
+    (g.F.Files.state c.loop-at.files).left) back c.loop-at.invariant.waiting in
+    (no_room c.args.self.now c.find_end.new.self _ _ waiting
+    (subst IsWithin back c.in_default.ensures.within) none
+    (sym c.room-room.ensures ∙ c.if-room-eq0.true)).told
 
-pub returns-in-0-clause-read_on : goal.returns-in-0-clause-read_on
-returns-in-0-clause-read_on g c = read_on c.loop-at.invariant.read_on c.in_ok-read_more.ensures.read_on
-
-pub returns-in_default-held_len-clause-read_on : goal.returns-in_default-held_len-clause-read_on
-returns-in_default-held_len-clause-read_on g c = read_on c.loop-at.invariant.read_on c.in_ok-read_more.ensures.read_on
-
-pub returns-in_default-held_len-clause-line : goal.returns-in_default-held_len-clause-line
-returns-in_default-held_len-clause-line g c =
-    let same = c.find_end.ensures.same in
-    let end = c.in_ok-read_more.ensures.end c.if-branch-eq0.true in
-    let some : 0 < c.held_len.result = omega arith in
-    handed _ c.read_more.new.self _ _ (g.F.Files.left c.read_more.new.files) c.held_len.result _ _
-    (record {
-      rest = c.in_ok-read_more.ensures.rest ∙ ap (λ position. rest_of position (g.F.Files.left c.loop-at.files)) same ∙ c.loop-at.invariant.rest;
-      before = c.in_ok-read_more.ensures.before ∙ ap (λ position. position.before) same ∙ c.loop-at.invariant.before;
-      first = λ rest is. last_is c.read_more.new.self.held rest c.held_len.result _ is end.1 c.held_len.ensures some (rw (end.0 ∙ ap (λ position. position.held) same) c.in_default.ensures.first);
-    })
-    c.hand_out-in_default-held_len.ensures.answer c.hand_out-in_default-held_len.ensures.ok
-
-pub returns-in_default-held_len-clause-goes_on : goal.returns-in_default-held_len-clause-goes_on
-returns-in_default-held_len-clause-goes_on g c =
-    let same = c.find_end.ensures.same in
-    let end = c.in_ok-read_more.ensures.end c.if-branch-eq0.true in
-    let some : 0 < c.held_len.result = omega arith in
-    goes_on c.args.self.now c.read_more.new.self _ _ (g.F.Files.left c.read_more.new.files) c.held_len.result _ _
-    (record {
-      rest = c.in_ok-read_more.ensures.rest ∙ ap (λ position. rest_of position (g.F.Files.left c.loop-at.files)) same ∙ c.loop-at.invariant.rest;
-      before = c.in_ok-read_more.ensures.before ∙ ap (λ position. position.before) same ∙ c.loop-at.invariant.before;
-      first = λ rest is. last_is c.read_more.new.self.held rest c.held_len.result _ is end.1 c.held_len.ensures some (rw (end.0 ∙ ap (λ position. position.held) same) c.in_default.ensures.first);
-    })
-    c.hand_out-in_default-held_len.ensures.ok
+pub returns-then-room-eq0-clause-stands : goal.returns-then-room-eq0-clause-stands
+returns-then-room-eq0-clause-stands g c =
+    let back = sym c.find_end.ensures.same in
+    let none = subst (λ p. HasNoEnd p.held (length p.held)) back c.in_default.ensures.first in
+    let waiting =
+    subst (λ p.
+    IsWaiting c.args.self.now p (g.F.Files.state c.args.files.now).left
+    (g.F.Files.state c.loop-at.files).left) back c.loop-at.invariant.waiting in
+    (no_room c.args.self.now c.find_end.new.self _ _ waiting
+    (subst IsWithin back c.in_default.ensures.within) none
+    (sym c.room-room.ensures ∙ c.if-room-eq0.true)).stands
 
 pub loop-at-preserved : goal.loop-at-preserved
-loop-at-preserved g c = record {
-  opened = search rules;
-  held = search rules;
-  open_name = search rules;
-  names = search rules;
-  kept = search rules;
-  read_on = read_on c.loop-at.invariant.read_on c.in_ok-read_more.ensures.read_on;
-  rest = c.in_ok-read_more.ensures.rest ∙ ap (λ position. rest_of position (g.F.Files.left c.loop-at.files)) c.find_end.ensures.same ∙ c.loop-at.invariant.rest;
-  before = c.in_ok-read_more.ensures.before ∙ ap (λ position. position.before) c.find_end.ensures.same ∙ c.loop-at.invariant.before;
-}
+loop-at-preserved g c =
+    let waiting =
+    subst (λ p.
+    IsWaiting c.args.self.now p (g.F.Files.state c.args.files.now).left
+    (g.F.Files.state c.loop-at.files).left) (sym
+    c.find_end.ensures.same) c.loop-at.invariant.waiting in
+    let going = sym c.is_at_end.ensures ∙ c.if-is_at_end.false in
+    record {
+      files =
+          reads_then is_read_fault _ is_read_fault (Ok c.in_ok-read_more.field-0) is_read_fault _ _
+          _ _ refl c.loop-at.invariant.files c.in_ok-read_more.ensures.files;
+      waiting =
+          waits c.args.self.now c.find_end.new.self _ _ _ _ waiting going
+          c.in_ok-read_more.ensures.more;
+      end = λ at_end. not_both c.find_end.new.self.at_end going (waiting.end at_end);
+    }
+
+pub returns-in_err-read_more-clause-files : goal.returns-in_err-read_more-clause-files
+returns-in_err-read_more-clause-files g c =
+    let is : c.from_residual.result ≡ Err c.in_err-read_more.field-0.0 = search rules in
+    reads_then is_read_fault _ is_read_fault (Err c.in_err-read_more.field-0.0) is_read_fault
+    c.from_residual.result _ _ _ (ap (has_failed {T = Bool} is_read_fault) is)
+    c.loop-at.invariant.files
+    c.in_err-read_more.ensures.files
+
+pub returns-in_err-read_more-clause-stands : goal.returns-in_err-read_more-clause-stands
+returns-in_err-read_more-clause-stands g c =
+    let back = sym c.find_end.ensures.same in
+    let is : c.from_residual.result ≡ Err c.in_err-read_more.field-0.0 = search rules in
+    let none = subst (λ p. HasNoEnd p.held (length p.held)) back c.in_default.ensures.first in
+    let waiting =
+    subst (λ p.
+    IsWaiting c.args.self.now p (g.F.Files.state c.args.files.now).left
+    (g.F.Files.state c.loop-at.files).left) back c.loop-at.invariant.waiting in
+    let read = c.in_err-read_more.ensures in
+    (subst (λ (r : Result Bool LineEnd). Answer r c.args.self.now c.read_more.new.self
+    (g.F.Files.state c.args.files.now).left (g.F.Files.state c.read_more.new.files).left) (sym
+    is)
+    (fails c.args.self.now c.find_end.new.self _ _ (g.F.Files.state c.loop-at.files).left _
+    c.in_err-read_more.field-0.0 read.cause read.stays read.before read.few waiting
+    (subst IsWithin back c.in_default.ensures.within) none
+    (sym c.is_at_end.ensures ∙ c.if-is_at_end.false))).stands

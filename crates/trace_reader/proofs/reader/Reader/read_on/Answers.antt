@@ -1,41 +1,165 @@
-use Rattle.std.proofs.Common.{◌∙◌, arith}
-use Rattle.trace_lines.proofs.HandedOut.{read_on}
-use Rattle.trace_reader.proofs.Told.{one_more, moved, stopped, asks_nothing, asks_step, end_told, failed_told, step_told, bad_told, blank_left}
+use Rattle.std.proofs.Common.{◌∙◌, Bool, refl, subst, arith}
+use Rattle.std.specs.Prelude.{Ok, Err, Result, IsErrOf}
+use Rattle.trace_reader.specs.declared.reader.TraceEnd.{TraceEnd}
+use Rattle.trace_reader.specs.declared.reader.TraceEnd.TheVariants.{ReadFault}
+use Rattle.gtm_base.proofs.ReadPieces.{reads_then}
+use Rattle.trace_reader.specs.Progress.{LinesAnswer, is_fault}
+use Rattle.trace_reader.proofs.Told.{asks_nothing, asks_step, ended, failed, handed, none_more}
+use Rattle.trace_reader.proofs.Told.{one_more, passed, refused, says_no_fault}
 use Rattle.trace_reader.proofs.reader.Reader.read_on.Goals as goal
 
-pub returns-in-Ok-false-clause-read_on : goal.returns-in-Ok-false-clause-read_on
-returns-in-Ok-false-clause-read_on g c = read_on c.loop-end.invariant.read_on c.next_line.ensures.read_on
-
 pub returns-in-Ok-false-clause-told : goal.returns-in-Ok-false-clause-told
-returns-in-Ok-false-clause-told g c = end_told _ c.loop-end.self c.next_line.new.self _ (g.F.Files.left c.next_line.new.files) c.loop-end.invariant.left (stopped c.loop-end.self c.next_line.new.self _ _ c.in-Ok-false.field-0 c.in-Ok-false.field-0-test c.in-Ok-false.ensures.moves)
+returns-in-Ok-false-clause-told g c =
+    let lines_told =
+    subst (λ more.
+    LinesAnswer (Ok more) c.loop-end.self c.next_line.new.self
+    (g.F.Files.state c.loop-end.files).left
+    (g.F.Files.state
+    c.next_line.new.files).left) c.in-Ok-false.field-0-test c.in-Ok-false.ensures.moves in
+    let count =
+    none_more _ _ c.in-Ok-false.field-0 c.in-Ok-false.field-0-test c.in-Ok-false.ensures.lines
+    in
+    (ended c.args.self.now c.loop-end.self c.next_line.new.self _ _ _
+    (record { same = c.loop-end.invariant.left; stands = c.loop-end.invariant.stands })
+    c.next_line.ensures.files.read lines_told count c.next_line.ensures.ended).told
 
-pub returns-in-Err-clause-read_on : goal.returns-in-Err-clause-read_on
-returns-in-Err-clause-read_on g c = read_on c.loop-end.invariant.read_on c.next_line.ensures.read_on
+pub returns-in-Ok-false-clause-stands : goal.returns-in-Ok-false-clause-stands
+returns-in-Ok-false-clause-stands g c =
+    let lines_told =
+    subst (λ more.
+    LinesAnswer (Ok more) c.loop-end.self c.next_line.new.self
+    (g.F.Files.state c.loop-end.files).left
+    (g.F.Files.state
+    c.next_line.new.files).left) c.in-Ok-false.field-0-test c.in-Ok-false.ensures.moves in
+    let count =
+    none_more _ _ c.in-Ok-false.field-0 c.in-Ok-false.field-0-test c.in-Ok-false.ensures.lines
+    in
+    (ended c.args.self.now c.loop-end.self c.next_line.new.self _ _ _
+    (record { same = c.loop-end.invariant.left; stands = c.loop-end.invariant.stands })
+    c.next_line.ensures.files.read lines_told count c.next_line.ensures.ended).stands
+
+pub returns-in-Err-clause-files : goal.returns-in-Err-clause-files
+returns-in-Err-clause-files g c =
+    let told : Result Bool TraceEnd = Err c.in-Err.end in
+    reads_then is_fault _ is_fault told is_fault (Err c.in-Err.end) _ _ _ refl
+    c.loop-end.invariant.files c.in-Err.ensures.files
 
 pub returns-in-Err-clause-told : goal.returns-in-Err-clause-told
-returns-in-Err-clause-told g c = failed_told _ c.loop-end.self c.next_line.new.self _ _ c.loop-end.invariant.left c.in-Err.end c.in-Err.ensures.moves
+returns-in-Err-clause-told g c =
+    (failed c.args.self.now c.loop-end.self c.next_line.new.self _ _ _
+    (record { same = c.loop-end.invariant.left; stands = c.loop-end.invariant.stands })
+    c.next_line.ensures.files.read c.in-Err.end c.in-Err.ensures.moves
+    (λ is. let same : IsErrOf {T = Bool} (Err c.in-Err.end) ReadFault = cc in
+    c.in-Err.ensures.kept same)).told
+
+pub returns-in-Err-clause-stands : goal.returns-in-Err-clause-stands
+returns-in-Err-clause-stands g c =
+    (failed c.args.self.now c.loop-end.self c.next_line.new.self _ _ _
+    (record { same = c.loop-end.invariant.left; stands = c.loop-end.invariant.stands })
+    c.next_line.ensures.files.read c.in-Err.end c.in-Err.ensures.moves
+    (λ is. let same : IsErrOf {T = Bool} (Err c.in-Err.end) ReadFault = cc in
+    c.in-Err.ensures.kept same)).stands
 
 pub loop-end-preserved : goal.loop-end-preserved
-loop-end-preserved g c = record {
-  opened = c.next_line.ensures.open;
-  held = c.next_line.ensures.held ∙ c.loop-end.invariant.held;
-  open_name = c.next_line.ensures.open_name ∙ c.loop-end.invariant.open_name;
-  names = c.next_line.ensures.names ∙ c.loop-end.invariant.names;
-  kept = c.in-Ok-true.ensures.kept ∙ c.loop-end.invariant.kept;
-  read_on = read_on c.loop-end.invariant.read_on c.next_line.ensures.read_on;
-  left = blank_left _ c.loop-end.self c.next_line.new.self _ _ c.loop-end.invariant.left (one_more c.loop-end.self.lines c.next_line.new.self.lines c.in-Ok-true.field-0 c.in-Ok-true.field-0-test c.in-Ok-true.ensures.lines) (moved c.loop-end.self c.next_line.new.self _ _ c.in-Ok-true.field-0 c.in-Ok-true.field-0-test c.in-Ok-true.ensures.moves) c.next_line.ensures.read_on (asks_nothing c.in-Ok-None.field-0 _ _ c.in-Ok-None.field-0-is c.in-Ok-None.ensures);
-  ended = c.next_line.ensures.ended ∙ c.loop-end.invariant.ended;
-  behind = omega (arith, c.in-Ok-true.ensures.onward c.in-Ok-true.field-0-test);
-}
+loop-end-preserved g c =
+    let lines_told =
+    subst (λ more.
+    LinesAnswer (Ok more) c.loop-end.self c.next_line.new.self
+    (g.F.Files.state c.loop-end.files).left
+    (g.F.Files.state
+    c.next_line.new.files).left) c.in-Ok-true.field-0-test c.in-Ok-true.ensures.moves in
+    let count =
+    one_more _ _ c.in-Ok-true.field-0 c.in-Ok-true.field-0-test c.in-Ok-true.ensures.lines in
+    let further = lines_told.told.further in
+    let goes_on =
+    passed c.args.self.now c.loop-end.self c.next_line.new.self _ _ _
+    (record { same = c.loop-end.invariant.left; stands = c.loop-end.invariant.stands })
+    c.next_line.ensures.files.read lines_told count
+    (asks_nothing c.in-Ok-None.field-0 _ _ c.in-Ok-None.field-0-is c.in-Ok-None.ensures)
+    c.next_line.ensures.ended in
+    record {
+      files =
+          reads_then is_fault _ is_fault (Ok c.in-Ok-true.field-0) is_fault _ _ _ _ refl
+          c.loop-end.invariant.files c.in-Ok-true.ensures.files;
+      left = goes_on.same;
+      stands = goes_on.stands;
+      ended = c.next_line.ensures.ended ∙ c.loop-end.invariant.ended;
+      behind = omega arith;
+      files_end =
+          λ at_end. c.next_line.ensures.behind_end (c.loop-end.invariant.end at_end)
+          ∙ c.loop-end.invariant.files_end at_end;
+      end = λ at_end. lines_told.told.end (c.loop-end.invariant.end at_end);
+    }
 
-pub returns-in-Ok-Some-clause-read_on : goal.returns-in-Ok-Some-clause-read_on
-returns-in-Ok-Some-clause-read_on g c = read_on c.loop-end.invariant.read_on c.next_line.ensures.read_on
+pub returns-in-Ok-Some-clause-files : goal.returns-in-Ok-Some-clause-files
+returns-in-Ok-Some-clause-files g c =
+    reads_then is_fault _ is_fault (Ok c.in-Ok-true.field-0) is_fault (Ok _) _ _ _ refl
+    c.loop-end.invariant.files c.in-Ok-true.ensures.files
 
 pub returns-in-Ok-Some-clause-told : goal.returns-in-Ok-Some-clause-told
-returns-in-Ok-Some-clause-told g c = step_told _ c.loop-end.self c.next_line.new.self _ _ c.loop-end.invariant.left (one_more c.loop-end.self.lines c.next_line.new.self.lines c.in-Ok-true.field-0 c.in-Ok-true.field-0-test c.in-Ok-true.ensures.lines) (moved c.loop-end.self c.next_line.new.self _ _ c.in-Ok-true.field-0 c.in-Ok-true.field-0-test c.in-Ok-true.ensures.moves) c.in-Ok-Some.step (asks_step c.in-Ok-Some.field-0 c.in-Ok-Some.step _ _ c.in-Ok-Some.field-0-is c.in-Ok-Some.ensures)
+returns-in-Ok-Some-clause-told g c =
+    let lines_told =
+    subst (λ more.
+    LinesAnswer (Ok more) c.loop-end.self c.next_line.new.self
+    (g.F.Files.state c.loop-end.files).left
+    (g.F.Files.state
+    c.next_line.new.files).left) c.in-Ok-true.field-0-test c.in-Ok-true.ensures.moves in
+    let count =
+    one_more _ _ c.in-Ok-true.field-0 c.in-Ok-true.field-0-test c.in-Ok-true.ensures.lines in
+    (handed c.args.self.now c.loop-end.self c.next_line.new.self _ _ _
+    (record { same = c.loop-end.invariant.left; stands = c.loop-end.invariant.stands })
+    c.next_line.ensures.files.read lines_told count c.in-Ok-Some.step
+    (asks_step c.in-Ok-Some.field-0 c.in-Ok-Some.step _ _ c.in-Ok-Some.field-0-is
+    c.in-Ok-Some.ensures) c.next_line.ensures.ended).told
 
-pub returns-in-Err-step-clause-read_on : goal.returns-in-Err-step-clause-read_on
-returns-in-Err-step-clause-read_on g c = read_on c.loop-end.invariant.read_on c.next_line.ensures.read_on
+pub returns-in-Ok-Some-clause-stands : goal.returns-in-Ok-Some-clause-stands
+returns-in-Ok-Some-clause-stands g c =
+    let lines_told =
+    subst (λ more.
+    LinesAnswer (Ok more) c.loop-end.self c.next_line.new.self
+    (g.F.Files.state c.loop-end.files).left
+    (g.F.Files.state
+    c.next_line.new.files).left) c.in-Ok-true.field-0-test c.in-Ok-true.ensures.moves in
+    let count =
+    one_more _ _ c.in-Ok-true.field-0 c.in-Ok-true.field-0-test c.in-Ok-true.ensures.lines in
+    (handed c.args.self.now c.loop-end.self c.next_line.new.self _ _ _
+    (record { same = c.loop-end.invariant.left; stands = c.loop-end.invariant.stands })
+    c.next_line.ensures.files.read lines_told count c.in-Ok-Some.step
+    (asks_step c.in-Ok-Some.field-0 c.in-Ok-Some.step _ _ c.in-Ok-Some.field-0-is
+    c.in-Ok-Some.ensures) c.next_line.ensures.ended).stands
+
+pub returns-in-Err-step-clause-files : goal.returns-in-Err-step-clause-files
+returns-in-Err-step-clause-files g c =
+    reads_then is_fault _ is_fault (Ok c.in-Ok-true.field-0) is_fault (Err c.in-Err-step.end) _ _ _
+    (says_no_fault c.in-Err-step.end _ _ c.in-Err-step.ensures) c.loop-end.invariant.files
+    c.in-Ok-true.ensures.files
 
 pub returns-in-Err-step-clause-told : goal.returns-in-Err-step-clause-told
-returns-in-Err-step-clause-told g c = bad_told _ c.loop-end.self c.next_line.new.self _ _ c.loop-end.invariant.left (one_more c.loop-end.self.lines c.next_line.new.self.lines c.in-Ok-true.field-0 c.in-Ok-true.field-0-test c.in-Ok-true.ensures.lines) (moved c.loop-end.self c.next_line.new.self _ _ c.in-Ok-true.field-0 c.in-Ok-true.field-0-test c.in-Ok-true.ensures.moves) c.next_line.ensures.read_on c.in-Err-step.end c.in-Err-step.ensures
+returns-in-Err-step-clause-told g c =
+    let lines_told =
+    subst (λ more.
+    LinesAnswer (Ok more) c.loop-end.self c.next_line.new.self
+    (g.F.Files.state c.loop-end.files).left
+    (g.F.Files.state
+    c.next_line.new.files).left) c.in-Ok-true.field-0-test c.in-Ok-true.ensures.moves in
+    let count =
+    one_more _ _ c.in-Ok-true.field-0 c.in-Ok-true.field-0-test c.in-Ok-true.ensures.lines in
+    (refused c.args.self.now c.loop-end.self c.next_line.new.self _ _ _
+    (record { same = c.loop-end.invariant.left; stands = c.loop-end.invariant.stands })
+    c.next_line.ensures.files.read lines_told count c.in-Err-step.end
+    c.in-Err-step.ensures).told
+
+pub returns-in-Err-step-clause-stands : goal.returns-in-Err-step-clause-stands
+returns-in-Err-step-clause-stands g c =
+    let lines_told =
+    subst (λ more.
+    LinesAnswer (Ok more) c.loop-end.self c.next_line.new.self
+    (g.F.Files.state c.loop-end.files).left
+    (g.F.Files.state
+    c.next_line.new.files).left) c.in-Ok-true.field-0-test c.in-Ok-true.ensures.moves in
+    let count =
+    one_more _ _ c.in-Ok-true.field-0 c.in-Ok-true.field-0-test c.in-Ok-true.ensures.lines in
+    (refused c.args.self.now c.loop-end.self c.next_line.new.self _ _ _
+    (record { same = c.loop-end.invariant.left; stands = c.loop-end.invariant.stands })
+    c.next_line.ensures.files.read lines_told count c.in-Err-step.end
+    c.in-Err-step.ensures).stands

@@ -1,20 +1,28 @@
-use Rattle.std.proofs.Common.{◌≡◌, ◌≤◌, ◌-◌, IsTrue}
-use Rattle.gtm_base.specs.Outside.{ReadOn}
-use Rattle.trace_reader.specs.Progress.{trace_left}
+use Rattle.std.proofs.Common.{◌≡◌, ◌≤◌, ◌-◌, ◌+◌, ℕ, List, IsTrue}
+use Rattle.std.specs.Prelude.{Ok}
+use Rattle.std.specs.Option.{ForSome}
+use Rattle.gtm_base.specs.Outside.{ReadsOn}
+use Rattle.trace_forms.specs.Steps.{Step}
+use Rattle.trace_lines.specs.declared.lines.TheConstants.{MAX_TRACE}
+use Rattle.trace_reader.specs.Progress.{before_of, is_at_end, is_fault, trace_left}
+use Rattle.trace_reader.specs.Standing.{StandsAt}
+use Rattle.trace_reader.specs.declared.reader.TraceEnd.{TraceEnd}
 use Rattle.trace_reader.proofs.reader.Reader.read_on.Given as goal
 
 abbrev pub invariant-loop-end : goal.invariant-loop-end
 invariant-loop-end g l = record {
-  opened : IsTrue (g.F.Files.is_open l.files);
-  held : g.F.Files.held l.files ≡ g.F.Files.held l.fn.files;
-  open_name : g.F.Files.open_name l.files ≡ g.F.Files.open_name l.fn.files;
-  names : g.F.Files.names l.files ≡ g.F.Files.names l.fn.files;
-  kept : g.F.Files.faults l.files ≡ g.F.Files.faults l.fn.files;
-  read_on : ReadOn (g.F.Files.left l.fn.files) (g.F.Files.left l.files);
-  left : trace_left l.self (g.F.Files.left l.files) ≡ trace_left l.fn.self (g.F.Files.left l.fn.files);
+  files : ReadsOn {T = Unit {0}} {E = TraceEnd} is_fault (Ok tt) (g.F.Files.state l.fn.files)
+      (g.F.Files.state l.files);
+  left : trace_left l.self (g.F.Files.state l.files).left
+      ≡ trace_left l.fn.self (g.F.Files.state l.fn.files).left;
+  stands : (bytes : List ℕ) (done : List Step)
+      → ForSome (g.F.Files.state l.fn.files).left (StandsAt bytes done l.fn.self)
+      → ForSome (g.F.Files.state l.files).left (StandsAt bytes done l.self);
   ended : l.self.ended ≡ l.fn.self.ended;
-  behind : l.fn.self.position.before ≤ l.self.position.before;
+  behind : before_of l.fn.self ≤ before_of l.self;
+  files_end : IsTrue (is_at_end l.fn.self) → l.files ≡ l.fn.files;
+  end : IsTrue (is_at_end l.fn.self) → IsTrue (is_at_end l.self);
 }
 
 abbrev pub decreases-loop-end : goal.decreases-loop-end
-decreases-loop-end g l = 67108865 - l.self.position.before
+decreases-loop-end g l = MAX_TRACE + 1 - before_of l.self
