@@ -1,12 +1,8 @@
-pub mod Answers
-pub mod EngineState
-pub mod InTurn
-pub mod Jobs
-pub mod LineFailure
-pub mod Messages
-pub mod Outcome
+pub mod Failures
+pub mod Models
+pub mod Opening
+pub mod Replays
 pub mod Report
 pub mod Run
-pub mod TraceRead
-pub mod Way
+pub mod Running
 pub mod Words

@@ -1,22 +1,17 @@
 //! The command: the replay of a trace over a container export.
 //!
-//! `replay` promises the status, what was printed by then, which files were opened, and the line on standard error. They are
-//! those of a model: the first rule that the export's bytes break (`export_reader`), the trace of the trace's bytes
-//! (`trace_reader`), and the text of the run of its steps, job by job (`specs/Run.antt`, `specs/Jobs.antt`).
+//! `replay` promises the status, what was printed by then, which files were opened and how far they
+//! were read, and the line on standard error. They are those of a model: the first rule that the
+//! export's bytes break and the container that they stand for (`export_reader`), the trace of the
+//! trace's bytes (`trace_reader`), and the run of the container over its steps (`replay_engine`).
+//! What is promised of the words `run EXPORT TRACE` is the record `Replays` (`specs/Replays.antt`).
 #![tactic(auto)]
 
-mod engine;
+mod command;
 mod export_file;
-mod failure;
-mod laws;
-mod lines;
-mod messages;
-mod replaying;
-mod reporting;
-mod running;
-mod top;
-mod trace_file;
+mod failures;
+mod report;
+mod trace_run;
 mod words;
 
-pub use laws::{no_step_is_over_the_limit, runs_go_on, runs_take_values_in_turn};
-pub use top::replay;
+pub use command::replay;

@@ -1,0 +1,73 @@
+-- What an end of the engine is as a failure.
+use Rattle.std.proofs.Common.{◌≡◌, ◌∙◌, ap, refl, subst, sym, ℕ, List}
+use Rattle.std.specs.Prelude.{false, Option, Some, None, Result, Err}
+use Rattle.gtm_base.specs.Causes.{has_failed}
+use Rattle.gtm_base.specs.Outside.{ReadSome, followed_by}
+use Rattle.gtm_cli.specs.Failures.{failure_of_run, failure_of_trace, is_out_fault, is_trace_fault}
+use Rattle.gtm_cli.specs.Failures.{status_of_run}
+use Rattle.gtm_cli.specs.Running.{TellsEnd}
+use Rattle.gtm_cli.specs.declared.failures.RunFailure.{RunFailure}
+use Rattle.trace_reader.specs.Progress.{fault_after, is_fault}
+use Rattle.trace_reader.specs.declared.reader.TraceEnd.{TraceEnd}
+use Rattle.trace_reader.specs.declared.reader.TraceEnd.TheVariants as trace
+use Rattle.replay_engine.specs.RunFault.{NeverLimits, is_run_fault}
+use Rattle.replay_engine.specs.declared.run_end.RunEnd.{RunEnd}
+use Rattle.replay_engine.specs.declared.run_end.RunEnd.TheVariants.{OutOfMemory, JobLimit}
+use Rattle.replay_engine.specs.declared.run_end.RunEnd.TheVariants.{SinkFault}
+
+pub out_fault_is : (end : RunEnd) → is_out_fault (failure_of_run end) ≡ is_run_fault end
+out_fault_is OutOfMemory = refl
+out_fault_is (JobLimit step) = refl
+out_fault_is SinkFault = refl
+
+pub no_trace_fault : (end : RunEnd) → is_trace_fault (failure_of_run end) ≡ false
+no_trace_fault OutOfMemory = refl
+no_trace_fault (JobLimit step) = refl
+no_trace_fault SinkFault = refl
+
+ends_none : (end : RunEnd) → NeverLimits (Err end)
+    → TellsEnd (status_of_run (Err (failure_of_run end))) → ⊥
+ends_none OutOfMemory never tells = tells
+ends_none (JobLimit step) never tells = never
+ends_none SinkFault never tells = tells
+
+pub tells_no_end : (end : RunEnd) (failure : RunFailure) → failure ≡ failure_of_run end
+    → NeverLimits (Err end) → TellsEnd (status_of_run (Err failure)) → ⊥
+tells_no_end end failure is never =
+    subst (λ f. TellsEnd (status_of_run (Err f)) → ⊥) (sym is) (ends_none end never)
+
+-- the engine's ends are no faults of the files
+pub files_stay : {T : Type 0} (result : Result T RunFailure) (end : RunEnd)
+    → result ≡ Err (failure_of_run end) → has_failed is_trace_fault result ≡ false
+files_stay result end is = ap (has_failed is_trace_fault) is ∙ no_trace_fault end
+
+trace_fault_is : (end : TraceEnd) → is_trace_fault (failure_of_trace end) ≡ is_fault end
+trace_fault_is trace.OutOfMemory = refl
+trace_fault_is trace.ReadFault = refl
+trace_fault_is (trace.Refused line rule) = refl
+
+-- a reader that had not ended fails as the files do
+pub reader_fault_is : (ended : Option TraceEnd) (end : TraceEnd) (failure : RunFailure)
+    → ended ≡ None → failure ≡ failure_of_trace end → is_trace_fault failure ≡ fault_after ended end
+reader_fault_is ended end failure going is =
+    ap is_trace_fault is ∙ trace_fault_is end ∙ sym (ap (λ e. fault_after e end) going)
+
+no_out_fault : (end : TraceEnd) → is_out_fault (failure_of_trace end) ≡ false
+no_out_fault trace.OutOfMemory = refl
+no_out_fault trace.ReadFault = refl
+no_out_fault (trace.Refused line rule) = refl
+
+-- the bytes that are left of a file that was read on are told where they were
+pub record IsTold (new : Option (List ℕ)) : Type 0 where
+  pub left : List ℕ
+  pub told : new ≡ Some left
+
+still_told : (new old : Option (List ℕ)) (bytes read : List ℕ) → old ≡ Some bytes
+    → old ≡ followed_by read new → IsTold new
+still_told None old bytes read is was = let never : Some bytes ≡ None = sym is ∙ was in
+    absurd (cc never)
+still_told (Some left) old bytes read is was = record { left = left; told = refl }
+
+pub told_left : (old new : Option (List ℕ)) (bytes : List ℕ) → old ≡ Some bytes → ReadSome old new
+    → IsTold new
+told_left old new bytes is read = still_told new old bytes read.bytes is read.left

@@ -1,0 +1,6 @@
+-- What two equal values have in common.
+use Rattle.std.proofs.Common.{◌≡◌}
+use Rattle.std.specs.Prelude.{Some}
+
+pub some_same : {A : Type 0} {a b : A} → Some a ≡ Some b → a ≡ b
+some_same is = cc is

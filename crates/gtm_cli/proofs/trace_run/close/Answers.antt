@@ -1,0 +1,6 @@
+use Rattle.gtm_cli.proofs.Failing.{tells_no_end}
+use Rattle.gtm_cli.proofs.trace_run.close.Goals as goal
+
+pub returns-in-Err-clause-ends : goal.returns-in-Err-clause-ends
+returns-in-Err-clause-ends g c =
+    tells_no_end c.in-Err.end _ c.from.ensures (rw c.requires at c.in-Err.ensures.unlimited)

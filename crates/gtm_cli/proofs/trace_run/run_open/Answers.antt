@@ -1,0 +1,29 @@
+use Rattle.std.proofs.Common.{◌∙◌, sym, refl}
+use Rattle.replay_engine.specs.EngineState.{state_at}
+use Rattle.replay_engine.proofs.JobTurns.{error_is}
+use Rattle.gtm_cli.proofs.OpenRuns.{begun, closed, steps_failed, unbegun}
+use Rattle.gtm_cli.proofs.Sames.{some_same}
+use Rattle.gtm_cli.proofs.trace_run.run_open.Goals as goal
+
+pub returns-in_err-engine-clause-runs : goal.returns-in_err-engine-clause-runs
+returns-in_err-engine-clause-runs g c = λ bytes left is told.
+    unbegun c.args.container _ c.in_err-engine.field-0.0 bytes left (g.S.Sink.state c.args.out.now)
+    (g.S.Sink.state c.begin.new.out) (error_is _ _ c.from_residual.ensures.1)
+    (some_same (sym is ∙ told))
+    c.in_err-engine.ensures.fault c.in_err-engine.ensures.ends c.in_err-engine.ensures.out.front
+
+pub returns-in_err-run_steps-clause-runs : goal.returns-in_err-run_steps-clause-runs
+returns-in_err-run_steps-clause-runs g c = λ bytes left is told.
+    steps_failed c.args.container _ c.in_err-run_steps.field-0.0 _ _ bytes left _ _ _
+    (error_is _ _ c.from_residual-in_err-run_steps.ensures.1) c.in_ok-engine.ensures.state
+    (begun _ _ c.args.container c.in_ok-engine.engine c.in_ok-engine.ensures.out)
+    (c.in_err-run_steps.ensures.runs bytes left is told)
+
+pub returns-clause-runs : goal.returns-clause-runs
+returns-clause-runs g c = λ bytes left is told.
+    closed c.args.container _ (state_at c.in_ok-engine.engine) _ _ bytes left _
+    (g.S.Sink.state c.begin.new.out) (g.S.Sink.state c.run_steps.new.out)
+    (g.S.Sink.state c.close.new.out) _ c.in_ok-engine.ensures.state
+    (begun _ _ c.args.container c.in_ok-engine.engine c.in_ok-engine.ensures.out) refl
+    (c.in_ok-run_steps.ensures.runs bytes left is told) c.close.ensures.out
+    c.close.ensures.fault c.close.ensures.ends
