@@ -1,5 +1,6 @@
 -- The two files that a run is tested over.
-use Rattle.std.specs.Prelude.{◌≡◌, ℕ, List, Some, codes}
+use Rattle.std.specs.Prelude.{◌≡◌, ℕ, List, [], Some, codes}
+use Rattle.gtm_base.specs.Outside.{SinkState}
 use Rattle.gtm_base.specs.Keys.{value_of}
 
 -- the name of the export
@@ -14,3 +15,7 @@ trace_name = codes "t.jsonl"
 pub record HoldsBoth (held : List (List ℕ × List ℕ)) (export trace : List ℕ) : Type 0 where
   pub export_held : value_of export_name held ≡ Some export
   pub trace_held : value_of trace_name held ≡ Some trace
+
+-- a sink that took nothing and did not fail
+abbrev pub untouched : SinkState
+untouched = record { taken = Some []; faults = 0 }

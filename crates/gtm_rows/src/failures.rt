@@ -34,7 +34,8 @@ fn failing_writes(rt: HostRuntime) -> Result<(), Fail> {
     Ok(())
 }
 
-// Each file is opened, read to its end, and asked once more.
+// Each file is opened, read to its end, and asked once more. The steps of the lines that were read
+// by then were run.
 #[test]
 fn failing_reads(rt: HostRuntime) -> Result<(), Fail> {
     for call in 1..7u64 {
@@ -50,7 +51,12 @@ fn failing_reads(rt: HostRuntime) -> Result<(), Fail> {
         };
         assert_eq!(rt; ran.status.code(), 3, "at call {call}");
         assert_eq!(rt; ran.err.bytes(), line, "at call {call}");
-        assert!(rt; ran.out.bytes().is_empty(), "at call {call}");
+        let written = if call < 6 {
+            b"".as_slice()
+        } else {
+            b"message {\"a\":[1,2,3]}\nmessage {\"a\":[9]}\n".as_slice()
+        };
+        assert_eq!(rt; ran.out.bytes(), written, "at call {call}");
     }
     let ran = run_over(rt.alloc(), EXPORT, TRACE, Failing { files: 7, ..NONE })?;
     assert_eq!(rt; ran.status.code(), 0);
@@ -132,5 +138,27 @@ fn failing_reports(rt: HostRuntime) -> Result<(), Fail> {
         assert_eq!(rt; silent.out.bytes(), ran.out.bytes());
         assert!(rt; silent.err.bytes().is_empty());
     }
+    Ok(())
+}
+
+// A trace that is read in pieces: the first line is run before the second is read, and a read that
+// fails leaves what was run.
+#[test]
+fn pieces_of_a_trace(rt: HostRuntime) -> Result<(), Fail> {
+    let mut trace = Vec::from_slice(rt.alloc(), b"{\"push\":{\"a\":[1,2,3]}}\n")?;
+    trace.extend_from_slice(vec![in rt.alloc(); b'\n'; 5_000]?.as_slice())?;
+    trace.extend_from_slice(b"{\"push\":{\"a\":[9]}}\n")?;
+    let ran = run_over(
+        rt.alloc(),
+        EXPORT,
+        trace.as_slice(),
+        Failing { files: 6, ..NONE },
+    )?;
+    assert_eq!(rt; ran.status.code(), 3);
+    assert_eq!(rt; ran.out.bytes(), b"message {\"a\":[1,2,3]}\n".as_slice());
+    assert_eq!(rt;
+        ran.err.bytes(),
+        b"gtm_replay: cannot read \"t.jsonl\"\n".as_slice()
+    );
     Ok(())
 }

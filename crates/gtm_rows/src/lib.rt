@@ -1,6 +1,8 @@
-//! Tests that cross the crates: worked runs with their exact output, and each call once with ample memory.
+//! Tests that cross the crates: worked runs with their exact output, and each call once with ample
+//! memory.
 //!
-//! The clauses of `run_over` are those of `replay` over files and sinks in memory, so that its premises are seen to be met.
+//! The clauses of `run_over` are those of `replay` over files and sinks in memory, so that its
+//! premises are seen to be met.
 #![tactic(auto)]
 
 mod running;
@@ -21,3 +23,5 @@ mod merges;
 mod outside;
 #[cfg(test)]
 mod rows;
+#[cfg(test)]
+mod slow;

@@ -1,9 +1,11 @@
 ghost use Rattle.std.specs.Prelude.{◌≡◌, ◌<◌, ◌⊎◌, ◌∷◌, [], Some, IfOk};
+ghost use Rattle.gtm_base.specs.Memory.{sink_state};
 ghost use Rattle.gtm_base.specs.Outside.{TookFront};
 ghost use Rattle.gtm_base.specs.declared.status.Status.TheVariants as status;
-ghost use Rattle.gtm_cli.specs.Outcome.{IsModels, Handed, model_text};
+ghost use Rattle.gtm_cli.specs.Models.{IsModels, model_text};
+ghost use Rattle.gtm_cli.specs.Replays.{Handed};
 ghost use Rattle.gtm_cli.specs.Report.{Reports};
-ghost use Rattle.gtm_rows.specs.Held.{HoldsBoth, export_name, trace_name};
+ghost use Rattle.gtm_rows.specs.Held.{HoldsBoth, export_name, trace_name, untouched};
 
 use gtm_base::{MemFiles, MemSink, OutOfMemory, Status};
 use gtm_cli::replay;
@@ -35,8 +37,9 @@ pub const NONE: Failing = Failing {
 
 /// Runs the words `run e.json t.jsonl` where these bytes are the export and the trace.
 ///
-/// Where no call of the files and of `out` failed, the status and what `out` took are the model's, or memory was wanting.
-/// An error comes only where memory is wanting for the files, the sinks or the words.
+/// Where no call of the files and of `out` failed, the status and what `out` took are the model's,
+/// or memory was wanting. An error comes only where memory is wanting for the files, the sinks or
+/// the words.
 pub fn run_over(
     alloc: Global,
     export: &[u8],
@@ -44,12 +47,16 @@ pub fn run_over(
     failing: Failing,
 ) -> Result<Ran, OutOfMemory>
     ensures model { IfOk result (λ ran. ran.files.faults ≡ 0 → ran.out.faults ≡ 0
-        → (ran.status ≡ status.OutOfMemory) ⊎ IsModels export.now trace.now ran.status (Some []) (Some ran.out.bytes)) }
-    ensures front { IfOk result (λ ran. TookFront (Some []) (Some ran.out.bytes) (model_text export.now trace.now)) }
+        → (ran.status ≡ status.OutOfMemory)
+        ⊎ IsModels export.now trace.now ran.status (Some []) (Some ran.out.bytes)) }
+    ensures front { IfOk result (λ ran.
+        TookFront (Some []) (Some ran.out.bytes) (model_text export.now trace.now)) }
     ensures command { IfOk result (λ ran. ran.status ≡ status.Usage → ⊥) }
     ensures unwritten { IfOk result (λ ran. ran.status ≡ status.SinkFault → 0 < ran.out.faults) }
-    ensures names { IfOk result (λ ran. Handed (Some []) ran.files.names (export_name ∷ trace_name ∷ [])) }
-    ensures err { IfOk result (λ ran. Reports ran.files.names ran.status (Some []) (Some ran.err.bytes) ran.err.faults) }
+    ensures names { IfOk result (λ ran.
+        Handed (Some []) ran.files.names (export_name ∷ trace_name ∷ [])) }
+    ensures err { IfOk result (λ ran.
+        Reports ran.files.names ran.status untouched (sink_state ran.err)) }
 {
     let mut files = holding(alloc, export, trace)?;
     files.fail_at(failing.files)?;

@@ -2,9 +2,7 @@ use crate::reading::{opened, read};
 use gtm_base::OutOfMemory;
 use std::alloc::Global;
 use std::test::Fail;
-
-// A line has at most so many bytes without its LF.
-const MOST: usize = 1_048_576;
+use trace_reader::MAX_LINE;
 
 // A push of a text, of so many bytes in all, of which there are over ten.
 fn push_of(alloc: Global, bytes: usize) -> Result<Vec<u8>, OutOfMemory> {
@@ -18,8 +16,8 @@ fn push_of(alloc: Global, bytes: usize) -> Result<Vec<u8>, OutOfMemory> {
 #[test]
 fn a_line_of_the_most_bytes(rt: HostRuntime) -> Result<(), Fail> {
     let alloc = rt.alloc();
-    let mut line = push_of(alloc, MOST)?;
-    assert_eq!(rt; line.len(), MOST, "without an LF");
+    let mut line = push_of(alloc, MAX_LINE)?;
+    assert_eq!(rt; line.len(), MAX_LINE, "without an LF");
     let without = read(alloc, &mut opened(alloc, &line, None)?)?;
     assert!(rt;
         without.as_str().ends_with("\"\nend"),
@@ -34,7 +32,7 @@ fn a_line_of_the_most_bytes(rt: HostRuntime) -> Result<(), Fail> {
 #[test]
 fn a_line_of_one_byte_more(rt: HostRuntime) -> Result<(), Fail> {
     let alloc = rt.alloc();
-    let mut line = push_of(alloc, MOST + 1)?;
+    let mut line = push_of(alloc, MAX_LINE + 1)?;
     assert_eq!(rt;
         read(alloc, &mut opened(alloc, &line, None)?)?.as_str(),
         "line 1 rule 1",

@@ -1,7 +1,9 @@
-//! Tests of `trace_reader` and `trace_forms` from outside, each expected value worked out by hand from the forms of a trace.
+//! Tests of `trace_reader` and `trace_forms` from outside, each expected value worked out by hand
+//! from the forms of a trace.
 //!
-//! Each form with its step, bad lines with the least rule that each breaks, the greatest length of a line, and what a reader hands
-//! out over files that give one byte a read and over files that fail.
+//! Each form with its step, bad lines with the least rule that each breaks, the greatest length of
+//! a line, and what a reader hands out over files that give one byte a read and over files that
+//! fail, also behind the end.
 #![tactic(auto)]
 
 #[cfg(test)]

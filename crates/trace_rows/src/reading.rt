@@ -2,55 +2,14 @@ ghost use Rattle.std.specs.Prelude.{IsTrue, IsSome, IfOk};
 
 use crate::telling::step_text;
 use gtm_base::{FileFailed, Files, MemFiles, OutOfMemory, Text};
+use slow_files::OneByte;
 use std::alloc::Global;
 use std::test::Fail;
 use trace_forms::TraceStep;
 use trace_reader::{Reader, TraceEnd};
 
-// Files that give one byte a read, count their own failures, and tell nothing of what they hold.
-#[derive(Drop)]
-struct OneByte {
-    files: MemFiles,
-    failed: u64,
-}
-
-impl Files for OneByte {
-    ghost use Rattle.std.specs.Prelude.{None, is_some};
-
-    ghost held = { λ _. None };
-
-    ghost is_open = { λ one. is_some one.files.file };
-
-    ghost open_name = { λ _. None };
-
-    ghost left = { λ _. None };
-
-    ghost names = { λ _. None };
-
-    ghost faults = { λ one. one.failed };
-
-    fn open(&mut self, name: &str) -> Result<(), FileFailed> {
-        let answer = self.files.open(name);
-        if answer.is_err() {
-            self.failed = self.failed.saturating_add(1);
-        }
-        answer
-    }
-
-    fn read(&mut self, piece: &mut [u8]) -> Result<usize, FileFailed> {
-        let answer = self.files.read(&mut piece[..1]);
-        if answer.is_err() {
-            self.failed = self.failed.saturating_add(1);
-        }
-        answer
-    }
-
-    fn faults(&self) -> u64 {
-        self.failed
-    }
-}
-
-/// The files that hold this trace, with it open; this call of theirs is to fail, counted from 1 with that opening.
+/// The files that hold this trace, with it open; this call of theirs is to fail, counted from 1
+/// with that opening.
 pub fn opened(alloc: Global, trace: &[u8], failing: Option<u64>) -> Result<MemFiles, Fail>
     ensures { IfOk result (λ files. IsSome files.file) }
 {
@@ -65,9 +24,10 @@ pub fn opened(alloc: Global, trace: &[u8], failing: Option<u64>) -> Result<MemFi
     }
 }
 
-/// The steps that a reader hands out, one a line, and how it ends; a further call has to end so too.
+/// The steps that a reader hands out, one a line, and how it ends; a further call has to end in
+/// the same way.
 pub fn read<F: Files>(alloc: Global, files: &mut F) -> Result<Text, Fail>
-    requires { IsTrue (F.is_open files.old) }
+    requires { IsTrue (F.state files.old).is_open }
 {
     let mut reader = Reader::new(alloc);
     let mut said = Text::new(alloc);
@@ -86,8 +46,8 @@ fn push_next<F: Files>(
     files: &mut F,
     said: &mut Text,
 ) -> Result<bool, Fail>
-    requires { IsTrue (F.is_open files.old) }
-    ensures { IsTrue (F.is_open files.new) }
+    requires { IsTrue (F.state files.old).is_open }
+    ensures { IsTrue (F.state files.new).is_open }
 {
     match reader.next_step(files) {
         Ok(Some(step)) => {
@@ -96,11 +56,12 @@ fn push_next<F: Files>(
         },
         Ok(None) => {
             said.push_str("end")?;
+            push_again(reader, files, said, None)?;
             Ok(true)
         },
         Err(end) => {
             push_end(said, end)?;
-            push_again(reader, files, said, end)?;
+            push_again(reader, files, said, Some(end))?;
             Ok(true)
         },
     }
@@ -111,13 +72,14 @@ fn push_again<F: Files>(
     reader: &mut Reader,
     files: &mut F,
     said: &mut Text,
-    end: TraceEnd,
+    end: Option<TraceEnd>,
 ) -> Result<(), OutOfMemory>
-    requires { IsTrue (F.is_open files.old) }
-    ensures { IsTrue (F.is_open files.new) }
+    requires { IsTrue (F.state files.old).is_open }
+    ensures { IsTrue (F.state files.new).is_open }
 {
     match reader.next_step(files) {
-        Err(again) if again == end => Ok(()),
+        Ok(None) if end.is_none() => Ok(()),
+        Err(again) if end == Some(again) => Ok(()),
         _ => said.push_str(", and then another answer"),
     }
 }
@@ -196,7 +158,6 @@ fn traces(rt: HostRuntime) -> Result<(), Fail> {
         assert_eq!(rt; read(alloc, &mut files)?.as_str(), row.says, "{}", row.name);
         let mut slow = OneByte {
             files: opened(alloc, row.trace, None)?,
-            failed: 0,
         };
         assert_eq!(rt;
             read(alloc, &mut slow)?.as_str(),
@@ -227,14 +188,14 @@ fn many_steps_byte_by_byte(rt: HostRuntime) -> Result<(), Fail> {
     let said = read(alloc, &mut files)?;
     let mut slow = OneByte {
         files: opened(alloc, trace.as_str().as_bytes(), None)?,
-        failed: 0,
     };
     assert!(rt; read(alloc, &mut slow)?.is(said.as_str()), "the same steps");
     assert!(rt; said.as_str().ends_with("push 999\nend"), "all steps");
     Ok(())
 }
 
-// The second read fails: the steps of all lines that the first one ended are handed out, and then the fault.
+// The second read fails: the steps of all lines that the first one ended are handed out, and then
+// the fault.
 #[test]
 fn a_fault_of_the_second_read(rt: HostRuntime) -> Result<(), Fail> {
     let alloc = rt.alloc();
@@ -250,6 +211,24 @@ fn a_fault_of_the_second_read(rt: HostRuntime) -> Result<(), Fail> {
         "the steps before it"
     );
     assert_eq!(rt; files.faults(), 1, "one fault");
+    Ok(())
+}
+
+// Each read behind the end would fail, and none is made: the calls before are the opening, a read
+// of all bytes, and one that meets the end.
+#[test]
+fn faults_behind_the_end(rt: HostRuntime) -> Result<(), Fail> {
+    let alloc = rt.alloc();
+    let mut files = opened(alloc, b"{\"push\":1}", None)?;
+    files.fail_at(4)?;
+    files.fail_at(5)?;
+    files.fail_at(6)?;
+    assert_eq!(rt;
+        read(alloc, &mut files)?.as_str(),
+        "push 1\nend",
+        "a last line without LF"
+    );
+    assert_eq!(rt; files.faults(), 0, "no fault");
     Ok(())
 }
 

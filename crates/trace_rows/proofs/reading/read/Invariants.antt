@@ -2,4 +2,4 @@ use Rattle.std.proofs.Common.{IsTrue}
 use Rattle.trace_rows.proofs.reading.read.Given as goal
 
 abbrev pub invariant-loop-turn : goal.invariant-loop-turn
-invariant-loop-turn g l = IsTrue (g.F.Files.is_open l.files)
+invariant-loop-turn g l = IsTrue (g.F.Files.state l.files).is_open
