@@ -2,7 +2,7 @@
 use Rattle.std.proofs.Common.{◌≡◌, ℕ, zero, suc, ◌<◌, ◌+◌, List, [], ◌∷◌, ◌++◌, length, get_or}
 use Rattle.std.proofs.Common.{slice_set, drop, Bool, true, false, not, ◌&&◌, ◌||◌, true≢false, refl}
 use Rattle.std.proofs.Common.{sym, ap, ◌∙◌, arith, drop-cons}
-use Rattle.std.specs.Prelude.{Some, option_map, option_map}
+use Rattle.std.specs.Prelude.{Some, option_map, insert}
 use Rattle.std.specs.Str.{bytes_eq}
 use Rattle.std.proofs.lemmas.Slice.Eq.{bytes_eq-Decides}
 use Rattle.std.proofs.lemmas.Bool.Decides.{same_from_decides, Decides-like}
@@ -54,6 +54,31 @@ module _ {A : Type 0} where
       let kept = has_key-push pair.0 new value pairs (bytes_eq-sym new pair.0 ∙ apart.0) in
       ap (λ b. not b && distinct_keys (pairs ++ (new, value) ∷ [])) kept
       ∙ (λ i. both.0 i && distinct_keys-push new value pairs apart.1 both.1 i)
+
+  has_key-insert : (key new : List ℕ) (value : A) (pairs : List (List ℕ × A)) (at : ℕ)
+      → bytes_eq new key ≡ false
+      → has_key key (insert pairs at (new, value)) ≡ has_key key pairs
+  has_key-insert key new value [] zero other = ap (λ b. b || false) other
+  has_key-insert key new value [] (suc at) other = ap (λ b. b || false) other
+  has_key-insert key new value (pair ∷ pairs) zero other =
+      ap (λ b. b || has_key key (pair ∷ pairs)) other
+  has_key-insert key new value (pair ∷ pairs) (suc at) other =
+      ap (λ b. bytes_eq pair.0 key || b) (has_key-insert key new value pairs at other)
+
+  pub distinct_keys-insert : (new : List ℕ) (value : A) (pairs : List (List ℕ × A)) (at : ℕ)
+      → has_key new pairs ≡ false → distinct_keys pairs ≡ true
+      → distinct_keys (insert pairs at (new, value)) ≡ true
+  distinct_keys-insert new value [] zero absent distinct = refl
+  distinct_keys-insert new value [] (suc at) absent distinct = refl
+  distinct_keys-insert new value (pair ∷ pairs) zero absent distinct =
+      λ i. not (absent i) && distinct i
+  distinct_keys-insert new value (pair ∷ pairs) (suc at) absent distinct =
+      let apart = or_false (bytes_eq pair.0 new) (has_key new pairs) absent in
+      let both = and_true (not (has_key pair.0 pairs)) (distinct_keys pairs) distinct in
+      let other : bytes_eq new pair.0 ≡ false = bytes_eq-sym new pair.0 ∙ apart.0 in
+      let kept = has_key-insert pair.0 new value pairs at other in
+      ap (λ b. not b && distinct_keys (insert pairs at (new, value))) kept
+      ∙ (λ i. both.0 i && distinct_keys-insert new value pairs at apart.1 both.1 i)
 
   -- after the first pairs without the key, its place among the rest counts on
   pub place_on : (key : List ℕ) (pairs : List (List ℕ × A)) (at : ℕ) (pair : List ℕ × A)

@@ -1,5 +1,5 @@
-ghost use Rattle.std.specs.Prelude.{◌≡◌, ◌<◌, [], ◌∷◌, ◌++◌, length, false, IfSome, IfNone, OnOk};
-ghost use Rattle.std.specs.Prelude.{OnErr};
+ghost use Rattle.std.specs.Prelude.{◌≡◌, ◌≤◌, ◌<◌, [], ◌∷◌, ◌++◌, length, insert, false, IfSome};
+ghost use Rattle.std.specs.Prelude.{IfNone, OnOk, OnErr};
 ghost use Rattle.std.specs.Option.{option_copied};
 ghost use Rattle.std.specs.Str.{chars};
 ghost use Rattle.std.specs.Prelude.{IsTrue};
@@ -92,5 +92,16 @@ impl<T: Drop> Keyed<T> {
         ensures err { OnErr result (self.new.pairs ≡ self.old.pairs) }
     {
         self.pairs.push((key, value))
+    }
+
+    /// Puts a pair before the one at a place, counted from 0, or behind the last, with a key that
+    /// none has. Where memory is wanting, the pair is dropped and the others stay as they were.
+    pub fn insert(&mut self, at: usize, key: Text, value: T) -> Result<(), OutOfMemory>
+        requires new { has_key key self.old.pairs ≡ false }
+        requires within { at ≤ length self.old.pairs }
+        ensures ok { OnOk result (self.new.pairs ≡ insert self.old.pairs at (key, value)) }
+        ensures err { OnErr result (self.new.pairs ≡ self.old.pairs) }
+    {
+        self.pairs.insert(at, (key, value))
     }
 }
