@@ -2,6 +2,8 @@ pub mod Converted
 pub mod Distincts
 pub mod Dotless
 pub mod Dots
+pub mod Fits
+pub mod Gathered
 pub mod Indexes
 pub mod Joined
 pub mod JsonRead
@@ -9,7 +11,9 @@ pub mod Levels
 pub mod Lists
 pub mod Members
 pub mod Nodes
+pub mod Placed
 pub mod Quotes
 pub mod Shallow
+pub mod Turns
 pub mod Walks
 pub mod Wholes

@@ -1,6 +1,7 @@
 pub mod Distinct
 pub mod Json
 pub mod JsonText
+pub mod Parsing
 pub mod Paths
 pub mod Plain
 pub mod Refusals

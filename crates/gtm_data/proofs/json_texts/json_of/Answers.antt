@@ -1,6 +1,6 @@
 use Rattle.std.proofs.Common.{sym, true≢false}
 use Rattle.gtm_data.proofs.JsonRead.{tree_read, no_tree}
-use Rattle.gtm_data.proofs.json.json_of.Goals as goal
+use Rattle.gtm_data.proofs.json_texts.json_of.Goals as goal
 
 pub returns-in-Ok : goal.returns-in-Ok
 returns-in-Ok c = tree_read c.args.bytes.now _ c.in-Ok.ensures.ok.0 c.in-Ok.ensures.ok.1
