@@ -1,0 +1,15 @@
+use Rattle.std.proofs.Common.{◌≡◌, Some, IfOk, option_map, subst, arith}
+use Rattle.gtm_data.specs.Json.{json_of}
+use Rattle.gtm_data.specs.Plain.{plain}
+use Rattle.gtm_data.specs.Tree.{tree_of}
+use Rattle.trace_forms.specs.Views.{reading_of}
+use Rattle.trace_forms.proofs.Told.{said}
+use Rattle.trace_forms.proofs.lines.read_text.Goals as goal
+
+pub returns-in-Ok-Some : goal.returns-in-Ok-Some
+returns-in-Ok-Some c =
+    let tree = json_of c.args.text.now in
+    let t = tree_of c.in-Ok-Some.data in
+    let there : Some (Some t) ≡ option_map plain tree = grind arith in
+    subst (λ r. IfOk c.read_form.result (λ read. reading_of read ≡ r)) (said tree t there)
+    c.read_form.ensures
