@@ -382,6 +382,18 @@ answers_as answer other old seen new left later is sees told =
     subst (λ r. LinesAnswer r seen new left later) is
     (subst (λ p. LinesAnswer answer p new left later) sees told)
 
+-- what changed nothing that is seen of the reading
+pub answer_kept : {result : Result (Option TraceStep) TraceEnd} {first old new : Progress}
+    {left_first left : Option (List ℕ)} → new ≡ old → Answer result first old left_first left
+    → Answer result first new left_first left
+answer_kept {result} {first} {left_first} {left} kept answer =
+    subst (λ p. Answer result first p left_first left) (sym kept) answer
+
+pub reading_kept : {first old new : Progress} {left_first left : Option (List ℕ)} → new ≡ old
+    → IsReading first old left_first left → IsReading first new left_first left
+reading_kept {first} {left_first} {left} kept reading =
+    subst (λ p. IsReading first p left_first left) (sym kept) reading
+
 -- one line more was read, or none
 pub one_more : (old new : ℕ) (more : Bool) → more ≡ true → new ≡ (if more then old + 1 else old)
     → new ≡ old + 1

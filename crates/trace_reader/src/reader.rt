@@ -14,6 +14,7 @@ ghost use Rattle.trace_reader.specs.Standing.{Leads, StandsAt};
 ghost use Rattle.trace_reader.specs.Trace.{built, built_reading, trace_of};
 
 use gtm_base::{Files, OutOfMemory};
+use json::Scratch;
 use std::alloc::Global;
 use std::marker::Model;
 use trace_forms::{LineRead, TraceStep, read_line};
@@ -38,6 +39,8 @@ pub enum TraceEnd {
 pub struct Reader {
     alloc: Global,
     lines: Lines,
+    // Memory that is lent to the reading of one line after another.
+    scratch: Scratch,
     // How many lines were handed out.
     count: u64,
     ended: Option<TraceEnd>,
@@ -68,6 +71,7 @@ impl Reader {
         Reader {
             alloc,
             lines: Lines::new(alloc),
+            scratch: Scratch::new(alloc),
             count: 0,
             ended: None,
         }
@@ -175,11 +179,12 @@ impl Reader {
     }
 
     // What the line that was read last asks for, or none where it is blank.
-    fn step(&self) -> Result<Option<TraceStep>, TraceEnd>
-        ensures { Judged result self.now.lines
-            (built_reading (line_of self.now.position.line.text)) }
+    fn step(&mut self) -> Result<Option<TraceStep>, TraceEnd>
+        ensures judged { Judged result self.old.lines
+            (built_reading (line_of self.old.position.line.text)) }
+        ensures kept { self.new ≡ self.old }
     {
-        match read_line(self.alloc, self.lines.line()) {
+        match read_line(self.alloc, &mut self.scratch, self.lines.line()) {
             Err(OutOfMemory) => Err(TraceEnd::OutOfMemory),
             Ok(LineRead::Blank) => Ok(None),
             Ok(LineRead::Bad(rule)) => Err(self.refused(rule)),
