@@ -9,23 +9,37 @@ use std::process::ExitCode;
 use std::rt::Env;
 
 fn main(rt: HostRuntime) -> ExitCode {
-    ExitCode::from(run(rt).code())
+    ExitCode::from(status(rt).code())
 }
 
-fn run(rt: HostRuntime) -> Status {
+fn status(rt: HostRuntime) -> Status {
     let alloc = rt.alloc();
-    let mut out = OutSink::stdout(rt.stdout());
-    let mut err = OutSink::stderr(rt.stderr());
-    match words(&rt) {
-        Ok(words) => {
-            let mut files = DiskFiles::new(alloc, rt);
-            replay(alloc, words.as_slice(), &mut files, &mut out, &mut err)
-        },
-        Err(OutOfMemory) => {
-            let _ = put(&mut err, b"gtm_replay: out of memory\n");
+    let sinks = (
+        OutSink::stdout(alloc, rt.stdout()),
+        OutSink::stderr(alloc, rt.stderr()),
+    );
+    match (sinks, words(&rt)) {
+        ((Ok(out), Ok(err)), Ok(words)) => run(rt, words.as_slice(), out, err),
+        _ => {
+            let _ = eprintln!(rt; "gtm_replay: out of memory");
             Status::OutOfMemory
         },
     }
+}
+
+// Runs the command, and hands on what the sinks keep. A run whose last bytes can't be written is not
+// done.
+fn run(rt: HostRuntime, words: &[String], mut out: OutSink, mut err: OutSink) -> Status {
+    let alloc = rt.alloc();
+    let mut files = DiskFiles::new(alloc, rt);
+    let mut status = replay(alloc, words, &mut files, &mut out, &mut err);
+    let finished = out.finish();
+    if matches!(status, Status::Done) && finished.is_err() {
+        let _ = put(&mut err, b"gtm_replay: cannot write\n");
+        status = Status::SinkFault;
+    }
+    let _ = err.finish();
+    status
 }
 
 // The words behind the program's name. Where one is no UTF-8 there are none, and so no command.

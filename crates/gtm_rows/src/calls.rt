@@ -5,6 +5,7 @@ use gtm_data::{
 };
 use run_log::{Line, put_line};
 use serde_json::Value;
+use std::io::{self, ErrorKind, Write};
 use std::str::FromStr;
 use std::test::Fail;
 
@@ -53,20 +54,71 @@ fn files_in_memory(rt: HostRuntime) -> Result<(), Fail> {
     Ok(())
 }
 
-// A slice takes what there is room for, and then nothing.
+// A writer that takes at most three bytes at a time, and fails when it has taken so many.
+#[derive(Drop)]
+struct Few<'a> {
+    left: usize,
+    taken: &'a mut Vec<u8>,
+}
+
+impl Write for Few<'_> {
+    fn write(&mut self, piece: &[u8]) -> io::Result<usize> {
+        let count = piece.len().min(self.left).min(3);
+        if count == 0 && !piece.is_empty() {
+            return Err(ErrorKind::Other.into());
+        }
+        self.taken.extend_from_slice(&piece[..count])?;
+        self.left -= count;
+        Ok(count)
+    }
+
+    fn flush(&mut self) -> io::Result<()> {
+        Ok(())
+    }
+}
+
+// What is kept is handed on at the end, up to the byte at which the writer fails.
 #[test]
 fn writers(rt: HostRuntime) -> Result<(), Fail> {
-    let mut written = Vec::new(rt.alloc());
-    let mut sink = OutSink::over(&mut written);
-    put(&mut sink, b"ab")?;
-    put(&mut sink, b"c")?;
-    assert_eq!(rt; sink.faults(), 0);
-    assert_eq!(rt; written.as_slice(), b"abc".as_slice());
-    let mut room = [0u8; 4];
-    let mut sink = OutSink::over(room.as_mut_slice());
-    assert!(rt; put(&mut sink, b"a line").is_err());
-    assert_eq!(rt; sink.faults(), 1);
-    assert_eq!(rt; room.as_slice(), b"a li".as_slice());
+    let run = b"message 1 ignored\nmodel {}\n";
+    for left in 0..run.len() + 1 {
+        let mut taken = Vec::new(rt.alloc());
+        let mut sink = OutSink::over(
+            rt.alloc(),
+            Few {
+                left,
+                taken: &mut taken,
+            },
+        )?;
+        put(&mut sink, &run[..18])?;
+        put(&mut sink, &run[18..])?;
+        let whole = left == run.len();
+        assert_eq!(rt; sink.finish().is_ok(), whole, "at byte {left}");
+        assert_eq!(rt; sink.faults(), u64::from(!whole), "at byte {left}");
+        drop(sink);
+        assert_eq!(rt; taken.as_slice(), &run[..left], "at byte {left}");
+    }
+    Ok(())
+}
+
+// More than is kept is handed on before the end.
+#[test]
+fn much_is_handed_on(rt: HostRuntime) -> Result<(), Fail> {
+    let line = vec![in rt.alloc(); b'x'; 1_000]?;
+    let mut taken = Vec::new(rt.alloc());
+    let mut sink = OutSink::over(
+        rt.alloc(),
+        Few {
+            left: 100_000,
+            taken: &mut taken,
+        },
+    )?;
+    for _ in 0..100 {
+        put(&mut sink, line.as_slice())?;
+    }
+    sink.finish()?;
+    drop(sink);
+    assert_eq!(rt; taken.len(), 100_000);
     Ok(())
 }
 

@@ -19,11 +19,13 @@ fn files_on_the_disk(rt: HostRuntime) -> Result<(), Fail> {
 
 #[test]
 fn streams_of_the_system(rt: HostRuntime) -> Result<(), Fail> {
-    let mut out = OutSink::stdout(rt.stdout());
+    let mut out = OutSink::stdout(rt.alloc(), rt.stdout())?;
     put(&mut out, b"a line on standard output\n")?;
+    out.finish()?;
     assert_eq!(rt; out.faults(), 0);
-    let mut err = OutSink::stderr(rt.stderr());
+    let mut err = OutSink::stderr(rt.alloc(), rt.stderr())?;
     put(&mut err, b"a line on standard error\n")?;
+    err.finish()?;
     assert_eq!(rt; err.faults(), 0);
     Ok(())
 }
