@@ -12,7 +12,7 @@ or_true : (some : Bool) → (some || true) ≡ true
 or_true true = refl
 or_true false = refl
 
-not_true : (some : Bool) → not some ≡ true → some ≡ false
+pub not_true : (some : Bool) → not some ≡ true → some ≡ false
 not_true true is = absurd (true≢false (sym is))
 not_true false is = refl
 

@@ -1,4 +1,5 @@
 pub mod Characters
+pub mod KeptPlaces
 pub mod KeyLaws
 pub mod Lookups
 pub mod OpenFile

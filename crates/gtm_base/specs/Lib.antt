@@ -3,10 +3,12 @@ pub mod Ascii
 pub mod Causes
 pub mod Disk
 pub mod FileFault
+pub mod KeyPlaces
 pub mod Keys
 pub mod KeysStay
 pub mod LentValue
 pub mod Memory
 pub mod MemoryView
 pub mod Outside
+pub mod SameKeyed
 pub mod StatusCode

@@ -3,8 +3,10 @@ ghost use Rattle.std.specs.Prelude.{IfNone, OnOk, OnErr};
 ghost use Rattle.std.specs.Option.{option_copied};
 ghost use Rattle.std.specs.Str.{chars};
 ghost use Rattle.std.specs.Prelude.{IsTrue};
+ghost use Rattle.gtm_base.specs.KeyPlaces.{places_of};
 ghost use Rattle.gtm_base.specs.Keys.{has_key, distinct_keys, value_of, place_of};
 
+use crate::key_places::{KeyPlaces, MAX_SCANNED};
 use crate::{ListOf, OutOfMemory, Text};
 use std::alloc::Global;
 
@@ -12,7 +14,9 @@ use std::alloc::Global;
 #[derive(Debug, Drop)]
 pub struct Keyed<T> {
     pub pairs: ListOf<(Text, T)>,
+    places: KeyPlaces,
     ghost distinct: { IsTrue (distinct_keys pairs) },
+    ghost kept: { places ≡ places_of pairs },
 }
 
 impl<T> Keyed<T> {
@@ -22,6 +26,7 @@ impl<T> Keyed<T> {
     {
         Keyed {
             pairs: ListOf::new(alloc),
+            places: KeyPlaces::new(alloc),
         }
     }
 
@@ -45,25 +50,34 @@ impl<T> Keyed<T> {
         ensures within { IfSome result (λ at. at < length self.now.pairs) }
         ensures absent { IfNone result (has_key (chars key.now) self.now.pairs ≡ false) }
     {
-        for (at, pair) in self.pairs.as_slice().iter().enumerate() {
-            if pair.0.is(key) {
-                return Some(at);
-            }
+        if self.pairs.len() > MAX_SCANNED {
+            self.places.get(key)
+        } else {
+            scan(self.pairs.as_slice(), key)
         }
-        None
     }
 
     /// The value at this key, or `None` where no pair has it.
     pub fn get(&self, key: &str) -> Option<&T>
         ensures { option_copied result ≡ value_of (chars key.now) self.now.pairs }
     {
-        for pair in self.pairs.as_slice() {
-            if pair.0.is(key) {
-                return Some(&pair.1);
-            }
+        match self.place_of(key) {
+            Some(at) => Some(&self.pairs.as_slice()[at].1),
+            None => None,
         }
-        None
     }
+}
+
+// The place of the pair with this key, by a look at each.
+fn scan<T>(pairs: &[(Text, T)], key: &str) -> Option<usize>
+    ensures { result ≡ place_of (chars key.now) pairs.now }
+{
+    for (at, pair) in pairs.iter().enumerate() {
+        if pair.0.is(key) {
+            return Some(at);
+        }
+    }
+    None
 }
 
 impl<T> Keyed<T> {
@@ -91,17 +105,39 @@ impl<T: Drop> Keyed<T> {
         ensures ok { OnOk result (self.new.pairs ≡ self.old.pairs ++ (key, value) ∷ []) }
         ensures err { OnErr result (self.new.pairs ≡ self.old.pairs) }
     {
-        self.pairs.push((key, value))
+        push_pair(&mut self.pairs, &mut self.places, (key, value))
     }
 
     /// Puts a pair before the one at a place, counted from 0, or behind the last, with a key that
-    /// none has. Where memory is wanting, the pair is dropped and the others stay as they were.
+    /// none has, where there are fewer than `MAX_SCANNED`. Where memory is wanting, the pair is
+    /// dropped and the others stay as they were.
     pub fn insert(&mut self, at: usize, key: Text, value: T) -> Result<(), OutOfMemory>
         requires new { has_key key self.old.pairs ≡ false }
         requires within { at ≤ length self.old.pairs }
+        requires few { length self.old.pairs < MAX_SCANNED }
         ensures ok { OnOk result (self.new.pairs ≡ insert self.old.pairs at (key, value)) }
         ensures err { OnErr result (self.new.pairs ≡ self.old.pairs) }
     {
         self.pairs.insert(at, (key, value))
     }
+}
+
+// Puts a pair behind the last, and keeps its place where there are many. Where memory is wanting, the
+// pair is dropped and all stays as it was.
+fn push_pair<T: Drop>(
+    pairs: &mut ListOf<(Text, T)>,
+    places: &mut KeyPlaces,
+    pair: (Text, T),
+) -> Result<(), OutOfMemory>
+    requires { places.old ≡ places_of pairs.old }
+    ensures ok { OnOk result (pairs.new ≡ pairs.old ++ pair ∷ []) }
+    ensures err { OnErr result (pairs.new ≡ pairs.old) }
+    ensures kept { places.new ≡ places_of pairs.new }
+{
+    pairs.push(pair)?;
+    if places.follow(pairs.as_slice()).is_err() {
+        let _ = pairs.pop();
+        return Err(OutOfMemory);
+    }
+    Ok(())
 }

@@ -12,6 +12,7 @@
 mod address;
 mod disk_files;
 mod handed;
+mod key_places;
 mod keyed;
 mod laws;
 mod list;
@@ -27,6 +28,7 @@ mod writing;
 
 pub use address::Address;
 pub use disk_files::DiskFiles;
+pub use key_places::MAX_SCANNED;
 pub use keyed::Keyed;
 pub use laws::keys_lead_to_their_pairs;
 pub use list::ListOf;

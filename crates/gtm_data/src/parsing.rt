@@ -9,17 +9,15 @@ ghost use Rattle.gtm_data.specs.Tree.{tree_of, trees_of, entries_of};
 use crate::MAX_DEPTH;
 use crate::data::{Data, Items, Members};
 use crate::numbers::whole_numeral;
-use gtm_base::{OutOfMemory, Text};
+use gtm_base::{MAX_SCANNED, OutOfMemory, Text};
 use json::{Reader, Scratch, Token};
 use std::alloc::Global;
 use std::cmp::Ordering;
 
-/// A Map with more members is left to the tree, which sorts them.
-const MAX_PLACED: usize = 64;
-
 /// The data of a JSON text in one pass over its tokens, or `None` where it gives up: at bytes that
 /// are no JSON, a number that has no place among the data, Lists and Maps that nest more than
-/// `MAX_DEPTH` deep, a repeated key, and a Map of over `MAX_PLACED` members.
+/// `MAX_DEPTH` deep, a repeated key, and a Map of over `gtm_base::MAX_SCANNED`
+/// members, which the tree sorts.
 pub(crate) fn parse_data(
     alloc: Global,
     scratch: &mut Scratch,
@@ -156,7 +154,7 @@ fn place_member(
     ensures there { IfOk result (λ done. IsTrue done
         → IsSome (place_for key.now found.old.pairs)) }
 {
-    if found.len() >= MAX_PLACED || found.place_of(key).is_some() {
+    if found.len() >= MAX_SCANNED || found.place_of(key).is_some() {
         return Ok(false);
     }
     let Some(at) = place_for(found.as_slice(), key) else {

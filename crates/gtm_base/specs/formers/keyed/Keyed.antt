@@ -11,9 +11,13 @@ use denote.Hole.Carrier.{listed}
 use denote.Param.Weighed.{Weighed, w_list, w_pair, w_const}
 use denote.Struct.Tuple.{Tuple, tuple_type}
 use Rattle.gtm_base.specs.contracts.text.Text as text
+use Rattle.gtm_base.specs.contracts.key_places.KeyPlaces as places
 use Rattle.gtm_base.specs.formers.list.ListOf as list_of
+use Rattle.gtm_base.specs.KeyPlaces.{places_of}
 use Rattle.gtm_base.specs.Keys.{distinct_keys}
-use Rattle.gtm_base.specs.KeysStay.{on_value, distinct_keys-map}
+use Rattle.gtm_base.specs.SameKeyed.{same_keyed}
+use Rattle.std.specs.Prelude.{None}
+use Rattle.gtm_base.specs.KeysStay.{on_value, distinct_keys-map, places_of-map}
 use Rattle.gtm_base.specs.declared.keyed.Keyed.{Keyed}
 use Rattle.gtm_base.specs.contracts.keyed.Keyed as contracts
 
@@ -36,8 +40,13 @@ abbrev pub the_former : Former {0} → Former {0}
 the_former values =
     via (distinct_of values) (λ X. Keyed (values.Of X))
     (λ X keyed. (keyed.pairs, keyed.distinct))
-    (λ X both. record { pairs = both.0; distinct = both.1 })
-    (λ X _. refl) (λ X _. refl)
+    (λ X both. record {
+      pairs = both.0;
+      places = places_of both.0;
+      distinct = both.1;
+      kept = refl;
+    })
+    (λ X keyed. same_keyed _ keyed refl) (λ X _. refl)
 
 abbrev pub the_weighed : {values : Former {0}} → Weighed values → Weighed (the_former values)
 the_weighed weighed = record {
@@ -47,7 +56,7 @@ the_weighed weighed = record {
 }
 
 pub the_empty : Keyed ⊥
-the_empty = record { pairs = []; distinct = refl }
+the_empty = record { pairs = []; places = None; distinct = refl; kept = refl }
 
 abbrev pub the_items : (X : Type 0) → Keyed X → List X
 the_items X keyed = map (λ pair. pair.1) keyed.pairs
@@ -64,6 +73,11 @@ the_items_listed X keyed = values_listed X keyed.pairs
 abbrev pair_row : RattleType → RattleType
 pair_row R = Tuple (text.the_row ∷ R ∷ [])
 
+-- the places stay where the values change
+stay : {X Y : Type 0} (along : X → Y) (keyed : Keyed X)
+    → places_of (map (on_value along) keyed.pairs) ≡ keyed.places
+stay along keyed = places_of-map along keyed.pairs ∙ sym keyed.kept
+
 module _ (R S : RattleType) (along : R.Denot → S.Denot) where
   pairs_alike : Alike R S along → Alike (pair_row R) (pair_row S) (on_value along)
   pairs_alike alike =
@@ -75,11 +89,12 @@ module _ (R S : RattleType) (along : R.Denot → S.Denot) where
       → Alike (contracts.the_row R) (contracts.the_row S)
       ((the_former this).map R.Denot S.Denot along)
   the_places alike =
-      struct_places (contracts.the_type R) (contracts.the_type S) (map (on_value along), tt)
-      ((the_former this).map R.Denot S.Denot along) (λ _. refl) refl (
+      struct_places (contracts.the_type R) (contracts.the_type S)
+      (map (on_value along), ((λ places. places), tt))
+      ((the_former this).map R.Denot S.Denot along) (λ keyed i. (map (on_value along) keyed.pairs, (stay along keyed i, tt))) refl (
         laid _ _ _
             (list_of.the_places (pair_row R) (pair_row S) (on_value along) (pairs_alike alike)),
-        tt,
+        (stays places.the_row, tt),
       )
 
   pairs_recoded : Recodes R S along → Recodes (pair_row R) (pair_row S) (on_value along)
@@ -91,6 +106,9 @@ module _ (R S : RattleType) (along : R.Denot → S.Denot) where
       → Recodes (contracts.the_row R) (contracts.the_row S)
       ((the_former this).map R.Denot S.Denot along)
   the_codes_placed same =
-      struct_Codes (contracts.the_type R) (contracts.the_type S) (map (on_value along), tt)
-      ((the_former this).map R.Denot S.Denot along) (λ _. refl)
-      (list_of.the_codes_placed (pair_row R) (pair_row S) (on_value along) (pairs_recoded same), tt)
+      struct_Codes (contracts.the_type R) (contracts.the_type S)
+      (map (on_value along), ((λ places. places), tt))
+      ((the_former this).map R.Denot S.Denot along) (λ keyed i. (map (on_value along) keyed.pairs, (stay along keyed i, tt))) (
+        list_of.the_codes_placed (pair_row R) (pair_row S) (on_value along) (pairs_recoded same),
+        ((λ _. refl), tt),
+      )

@@ -12,8 +12,9 @@ pub invariant_of-self : goal.invariant_of-self
 invariant_of-self g c =
     let old = c.args.self.now in record {
       distinct =
-          either c.push.result c.push.ensures.ok c.push.ensures.err
+          either c.push_pair.result c.push_pair.ensures.ok c.push_pair.ensures.err
           (λ added. ap distinct_keys added
           ∙ distinct_keys-push c.args.key c.args.value old.pairs c.requires old.distinct)
           (λ same. ap distinct_keys same ∙ old.distinct);
+      kept = c.push_pair.ensures.kept;
     }
