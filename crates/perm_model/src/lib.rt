@@ -1,8 +1,22 @@
 //! What templates may do and how their scripts end, as plain data.
 //!
-//! So far it has the faults of a script alone.
+//! A `Policy` is a list of grants, and a call of a script has `Need`s. `specs/` says which grant
+//! allows which need, how a pattern is set against an address, and which permission a need belongs
+//! to. The tables of the permissions' words and of the calls are read by `Permission::name`,
+//! `permission_named`, `api_named`, `api_name` and `callback_place`, each exactly; laws say that no
+//! word and no name stands in them twice.
 #![tactic(auto)]
 
+mod apis;
 mod faults;
+mod grants;
+mod laws;
+mod needs;
+mod permissions;
 
+pub use apis::{APIS, ApiId, api_name, api_named, callback_place};
 pub use faults::FaultKind;
+pub use grants::{AddressParts, AddressPattern, Grant, Grants, KeyPattern, Policy};
+pub use laws::{names_are_of_one_api, words_are_of_one_permission};
+pub use needs::{Ask, Need, Needs, Part, Parts};
+pub use permissions::{PERMISSIONS, Permission, permission_named};
