@@ -1,7 +1,7 @@
 -- Which needs a policy allows, and to which permission a need belongs.
 use Rattle.std.specs.Prelude.{ℕ, ◌&&◌, ◌||◌, List, Bool, true, false, Option, Some, None}
-use Rattle.std.specs.Prelude.{codes, nat_eq}
-use Rattle.std.specs.List.{list_any, starts_with}
+use Rattle.std.specs.Prelude.{codes, nat_eq, not}
+use Rattle.std.specs.List.{list_any, starts_with, position_from}
 use Rattle.std.specs.Str.{bytes_eq}
 use Rattle.perm_model.specs.declared.grants.AddressParts.{AddressParts}
 use Rattle.perm_model.specs.declared.grants.Grant.{Grant}
@@ -97,6 +97,10 @@ some_allows grants wanted = list_any (λ g. allows g wanted) grants
 
 abbrev pub is_allowed : Policy → Need → Bool
 is_allowed policy wanted = is_free wanted || some_allows policy.grants wanted
+
+-- the place of the first need that is not allowed
+abbrev pub first_denied : Policy → List Need → Option ℕ
+first_denied policy needs = position_from (λ wanted. not (is_allowed policy wanted)) 0 needs
 
 -- the permission of which a need is a part
 abbrev pub permission_of : Need → Option Permission

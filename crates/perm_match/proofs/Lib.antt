@@ -1,0 +1,5 @@
+pub mod Ends
+pub mod Grants
+pub mod Joins
+pub mod RunLaws
+pub mod Steps

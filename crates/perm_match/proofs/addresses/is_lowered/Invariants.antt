@@ -1,0 +1,14 @@
+use Rattle.std.proofs.Common.{◌≡◌, length}
+use Rattle.std.specs.Prelude.{map}
+use Rattle.std.specs.Char.{to_ascii_lowercase}
+use Rattle.std.specs.Str.{bytes_eq}
+use Rattle.perm_match.specs.Pieces.{joined}
+use Rattle.perm_match.proofs.addresses.is_lowered.Given as goal
+
+abbrev pub invariant-loop-c : goal.invariant-loop-c
+invariant-loop-c l =
+    bytes_eq (map to_ascii_lowercase (joined l.left)) (joined l.right)
+    ≡ bytes_eq (map to_ascii_lowercase (joined l.pattern)) (joined l.text)
+
+abbrev pub decreases-loop-c : goal.decreases-loop-c
+decreases-loop-c l = length (joined l.left)

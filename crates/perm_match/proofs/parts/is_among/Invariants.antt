@@ -1,0 +1,9 @@
+use Rattle.std.proofs.Common.{◌≡◌, drop}
+use Rattle.std.specs.List.{list_any}
+use Rattle.std.specs.Str.{bytes_eq}
+use Rattle.perm_match.proofs.parts.is_among.Given as goal
+
+abbrev pub invariant-loop-other : goal.invariant-loop-other
+invariant-loop-other l =
+    list_any (λ k. bytes_eq k l.key) (drop l.other-index l.keys)
+    ≡ list_any (λ k. bytes_eq k l.key) l.keys
