@@ -1,0 +1,3 @@
+pub mod HeadingLaws
+pub mod LinesRead
+pub mod PartsFound
