@@ -1,0 +1,17 @@
+//! The policy of a template's permissions.
+//!
+//! `read_policy` reads the list of permissions of a custom template. It gives the grants in the
+//! order of the list, one for each row, name or pattern, exactly by `policy_read` of `specs/`, with
+//! a warning for each permission, word, row and pattern that is not known and so grants nothing. It
+//! refuses the list exactly where it has not the form of one. Otherwise only memory can be wanting.
+#![tactic(auto)]
+
+mod items;
+mod parts;
+mod patterns;
+mod permissions;
+mod policy;
+mod reading;
+mod values;
+
+pub use policy::{PolicyEnd, read_policy};
