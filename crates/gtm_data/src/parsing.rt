@@ -16,8 +16,8 @@ use std::cmp::Ordering;
 
 /// The data of a JSON text in one pass over its tokens, or `None` where it gives up: at bytes that
 /// are no JSON, a number that has no place among the data, Lists and Maps that nest more than
-/// `MAX_DEPTH` deep, a repeated key, and a Map of over `gtm_base::MAX_SCANNED`
-/// members, which the tree sorts.
+/// `MAX_DEPTH` deep, a repeated key, and a Map of over `gtm_base::MAX_SCANNED` members,
+/// which the tree sorts.
 pub(crate) fn parse_data(
     alloc: Global,
     scratch: &mut Scratch,
