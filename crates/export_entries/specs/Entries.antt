@@ -2,7 +2,7 @@
 use Rattle.std.specs.Prelude.{ℕ, List, Option, codes}
 use Rattle.serde_json.specs.Data.{Data}
 use Rattle.export_fields.specs.Fault.{◌then◌}
-use Rattle.export_fields.specs.Fields.{not_object, text_fault, text_at}
+use Rattle.export_fields.specs.Fields.{not_object, not_text, as_text, text_fault, text_at}
 use Rattle.export_fields.specs.ListOf.{list_fault, list_at}
 use Rattle.export_fields.specs.Objects.{object_fault, object_at}
 use Rattle.export_entries.specs.Tags.{tag_fault, tag_of}
@@ -17,10 +17,14 @@ unfoldable pub container_fault : Data → Option (List ℕ)
 container_fault d =
     not_object d
     then text_fault (codes "publicId") d
+    then list_fault not_text (codes "usageContext") d
 
 -- what an export says of its container itself
 unfoldable pub container_of : Data → WrittenContainer
-container_of d = record { public_id = text_at (codes "publicId") d }
+container_of d = record {
+  public_id = text_at (codes "publicId") d;
+  contexts = list_at as_text (codes "usageContext") d;
+}
 
 -- the first fault of a container version
 unfoldable pub entries_fault : Data → Option (List ℕ)

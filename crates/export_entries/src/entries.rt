@@ -7,15 +7,16 @@ use crate::tags::WrittenTags;
 use crate::templates::WrittenTemplates;
 use crate::triggers::WrittenTriggers;
 use crate::variables::{WrittenBuiltIns, WrittenVariables};
-use export_fields::{Entry, ReadEnd, list_of, object, object_at, text};
-use gtm_base::Text;
+use export_fields::{Entry, ReadEnd, list_of, object, object_at, text, texts};
+use gtm_base::{Text, Texts};
 use serde_json::Value;
 use std::alloc::Global;
 
-/// What an export says of its container itself.
+/// What an export says of its container itself: its public name, and what it is used in.
 #[derive(Drop)]
 pub struct WrittenContainer {
     pub public_id: Text,
+    pub contexts: Texts,
 }
 
 impl Entry for WrittenContainer {
@@ -29,7 +30,11 @@ impl Entry for WrittenContainer {
     fn read(alloc: Global, value: &Value) -> Result<WrittenContainer, ReadEnd> {
         object(alloc, value)?;
         let public_id = text(alloc, value, "publicId")?;
-        Ok(WrittenContainer { public_id })
+        let contexts = texts(alloc, value, "usageContext")?;
+        Ok(WrittenContainer {
+            public_id,
+            contexts,
+        })
     }
 }
 

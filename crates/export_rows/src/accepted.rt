@@ -20,7 +20,7 @@ const ACCEPTED: &[Accepted] = &[
     },
     Accepted {
         name: "web among others, with an underscore",
-        members: br#""container":{"usageContext":[null,"ANDROID","wE_b"]}"#,
+        members: br#""container":{"usageContext":["","ANDROID","wE_b"]}"#,
     },
     Accepted {
         name: "words with underscores and capitals",

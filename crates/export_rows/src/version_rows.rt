@@ -22,6 +22,25 @@ pub const VERSIONS: &[Row] = &[
         path: "/containerVersion/container/usageContext",
     },
     Row {
+        name: "web before a number",
+        text: br#""container":{"usageContext":["WEB",5]}"#,
+        rule: 8,
+        path: "/containerVersion/container/usageContext/1",
+    },
+    Row {
+        name: "web behind null and another text",
+        text: br#""container":{"usageContext":[null,"ANDROID","wE_b"]}"#,
+        rule: 8,
+        path: "/containerVersion/container/usageContext/0",
+    },
+    // Rule 8 twice: the public name comes before what the container is used in.
+    Row {
+        name: "a public name that is a number, and web before a list",
+        text: br#""container":{"usageContext":["web",[]],"publicId":5},"tag":{}"#,
+        rule: 8,
+        path: "/containerVersion/container/publicId",
+    },
+    Row {
         name: "a kind of parameter in a list",
         text: br#""tag":[{"tagId":"1","name":"A","type":"html","parameter":[{"key":"a"},{"type":"LIST","list":[{"type":"TAG_REFERENCE"},{"type":"FLOAT"}]}]}]"#,
         rule: 8,
@@ -104,6 +123,13 @@ pub const VERSIONS: &[Row] = &[
     Row {
         name: "a number of the version that is no text, and no web",
         text: br#""containerVersionId":0,"container":{"usageContext":[]}"#,
+        rule: 7,
+        path: "/containerVersion/container/usageContext",
+    },
+    // Rules 7 and 8.
+    Row {
+        name: "a number, and no web",
+        text: br#""container":{"usageContext":[5,"SERVER"]}"#,
         rule: 7,
         path: "/containerVersion/container/usageContext",
     },
