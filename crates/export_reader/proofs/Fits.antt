@@ -1,11 +1,12 @@
 -- A container without templates uses none.
-use Rattle.std.proofs.Common.{◌≡◌, ◌<◌, ℕ, List, [], ◌∷◌, length, Option, Some, None, refl, subst}
-use Rattle.std.proofs.Common.{arith}
+use Rattle.std.proofs.Common.{◌≡◌, ◌∙◌, ◌<◌, ℕ, List, [], ◌∷◌, length, map, Option, Some, None}
+use Rattle.std.proofs.Common.{refl, ap, subst, arith}
 use Rattle.std.specs.Prelude.{codes}
 use Rattle.std.proofs.lemmas.List.Elements.{All-weaker}
+use Rattle.export_entries.specs.declared.entries.WrittenEntries.{WrittenEntries}
 use Rattle.export_fields.specs.Fault.{◌then◌}
 use Rattle.export_model.specs.Sound.{IsTagKindIn, IsVariableKindIn, IsTagIn, IsVariableIn, InRange}
-use Rattle.export_model.specs.Sound.{FitsTag, FitsVariable, FitsTemplates, IsConsistent, Sound}
+use Rattle.export_model.specs.Sound.{FitsTag, FitsVariable, FitsTemplates}
 use Rattle.export_model.specs.declared.container.Container.{Container}
 use Rattle.export_model.specs.declared.tags.TagKind.{TagKind}
 use Rattle.export_model.specs.declared.tags.TagKind.TheVariants as tag_kind
@@ -15,6 +16,8 @@ use Rattle.export_model.specs.declared.variables.VariableKind.TheVariants.{Globa
 use Rattle.export_model.specs.declared.variables.VariableKind.TheVariants.{EventName, Lookup}
 use Rattle.export_model.specs.declared.variables.VariableKind.TheVariants.{RegexTable, Template}
 use Rattle.export_model.specs.declared.variables.VariableKind.TheVariants.{Unknown}
+use Rattle.export_numbers.specs.Container.{container_of}
+use Rattle.export_numbers.specs.Templates.{template_of}
 use Rattle.export_reader.specs.Rules.{first_entry, not_built}
 
 no_place : (c : Container) → c.templates ≡ [] → (at : ℕ) → at < length c.templates → ⊥
@@ -58,20 +61,24 @@ empty : {A : Type 0} (key : List ℕ) (items : List A) → None ≡ first_entry 
 empty key [] is = refl
 empty key (x ∷ items) is = absurd cc
 
-no_templates : (c : Container) → None ≡ not_built c → c.templates ≡ []
+no_templates : (written : WrittenEntries) → None ≡ not_built written → written.templates ≡ []
 unfolding not_built
-no_templates c is =
-    let templates = first_entry (codes "customTemplate") c.templates in
-    let built_ins = first_entry (codes "builtInVariable") c.built_ins in
-    let variables = first_entry (codes "variable") c.variables in
-    let triggers = first_entry (codes "trigger") c.triggers in
-    let tags = first_entry (codes "tag") c.tags in
-    empty (codes "customTemplate") c.templates
+no_templates written is =
+    let templates = first_entry (codes "customTemplate") written.templates in
+    let built_ins = first_entry (codes "builtInVariable") written.built_ins in
+    let variables = first_entry (codes "variable") written.variables in
+    let triggers = first_entry (codes "trigger") written.triggers in
+    let tags = first_entry (codes "tag") written.tags in
+    empty (codes "customTemplate") written.templates
     (none_first built_ins templates
     (none_first variables (built_ins then templates)
     (none_first triggers (variables then built_ins then templates)
     (none_first tags (triggers then variables then built_ins then templates) is))))
 
--- a consistent container that has nothing which is not built is sound
-pub sound : (c : Container) → IsConsistent c → None ≡ not_built c → Sound c
-sound c is built = record { consistent = is; fits = fits c (no_templates c built) is.in_range }
+-- the container of entries that have nothing which is not built uses templates as what they are
+pub built_fits : (written : WrittenEntries) (c : Container) → c ≡ container_of written → InRange c
+    → None ≡ not_built written → FitsTemplates c
+built_fits written c made there built =
+    let none : c.templates ≡ [] =
+    ap (λ container. container.templates) made ∙ ap (map template_of) (no_templates written built) in
+    fits c none there

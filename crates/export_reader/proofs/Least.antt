@@ -23,19 +23,6 @@ abbrev Rises : ℕ → ℕ → List Rule → Type 0
 Rises from until [] = from ≤ until
 Rises from until (rule ∷ rules) = (from ≤ rule.0) × Rises (suc rule.0) until rules
 
-rises_later : (from later until : ℕ) (rules : List Rule) → from ≤ later → Rises later until rules
-    → Rises from until rules
-rises_later from later until [] lower rises = let here : later ≤ until = rises in omega arith
-rises_later from later until (rule ∷ rules) lower rises =
-    (let here : later ≤ rule.0 = rises.0 in omega arith, rises.1)
-
--- rules that rise, and behind them rules that rise on
-rises_on : (from between until : ℕ) (rules more : List Rule) → Rises from between rules
-    → Rises between until more → Rises from until (rules ++ more)
-rises_on from between until [] more rises on = rises_later from between until more rises on
-rises_on from between until (rule ∷ rules) more rises on =
-    (rises.0, rises_on (suc rule.0) between until rules more rises.1 on)
-
 -- a rule of the list, broken at this path
 abbrev Among : List Rule → ℕ → List ℕ → Type 0
 Among rules number path = (at : ℕ) × (slice_get rules at ≡ Some (number, Some path))
@@ -125,7 +112,7 @@ unbroken : (rules : List Rule) (first : Option (ℕ × List ℕ)) → first_of r
 unbroken rules None is none = refl
 unbroken rules (Some first) is none = absurd (none first.0 first.1 (found rules first.0 first.1 is))
 
-entries_rise : (written : WrittenEntries) → Rises 9 29 (entries_rules written)
+entries_rise : (written : WrittenEntries) → Rises 9 30 (entries_rules written)
 unfolding entries_rules reference_rules container_rules
 entries_rise written = (
   omega arith,
@@ -133,29 +120,28 @@ entries_rise written = (
     omega arith,
     (
       omega arith,
-      (omega arith, (omega arith, (omega arith, (omega arith, (omega arith, omega arith))))),
+      (
+        omega arith,
+        (omega arith, (omega arith, (omega arith, (omega arith, (omega arith, omega arith))))),
+      ),
     ),
   ),
 )
 
-version_rise : (version : Option json.Data) → Rises 7 29 (option_map_or version_rules version [])
+version_rise : (version : Option json.Data) → Rises 7 30 (option_map_or version_rules version [])
 unfolding version_rules
 version_rise None = omega arith
 version_rise (Some version) = (omega arith, (omega arith, entries_rise (entries_of version)))
 
-tree_rise : (tree : Option json.Data) → Rises 3 29 (option_map_or tree_rules tree [])
+tree_rise : (tree : Option json.Data) → Rises 3 30 (option_map_or tree_rules tree [])
 unfolding tree_rules
 tree_rise None = omega arith
 tree_rise (Some d) =
     (omega arith, (omega arith, (omega arith, (omega arith, version_rise (version_in d)))))
 
-bytes_rise : (bytes : List ℕ) → Rises 1 29 (rules_of bytes)
-unfolding rules_of
-bytes_rise bytes = (omega arith, (omega arith, tree_rise (json_of bytes)))
-
 rise : (bytes : List ℕ) → Rises 1 30 (export_rules bytes)
-unfolding export_rules
-rise bytes = rises_on 1 29 30 (rules_of bytes) _ (bytes_rise bytes) (omega arith, omega arith)
+unfolding export_rules rules_of
+rise bytes = (omega arith, (omega arith, tree_rise (json_of bytes)))
 
 pub first_is_least : (bytes path : List ℕ) (rule : ℕ) → (first_broken bytes ≡ Some (rule, path))
     ↔ (Breaks bytes rule path

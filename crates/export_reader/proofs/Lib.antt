@@ -1,5 +1,4 @@
 pub mod Firsts
 pub mod Fits
 pub mod Least
-pub mod Stages
 pub mod Untold

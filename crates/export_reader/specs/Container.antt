@@ -3,18 +3,24 @@ use Rattle.std.specs.Prelude.{ℕ, List, Option, option_map, option_and_then}
 use Rattle.serde_json.specs.Data as json
 use Rattle.gtm_data.specs.Json.{json_of}
 use Rattle.export_entries.specs.Entries.{entries_of}
+use Rattle.export_entries.specs.declared.entries.WrittenEntries.{WrittenEntries}
 use Rattle.export_model.specs.declared.container.Container.{Container}
 use Rattle.export_numbers.specs.Container.{container_of}
 use Rattle.export_reader.specs.Rules.{version_in}
+use Rattle.export_reader.specs.declared.loading.Loaded.{Loaded}
 
 -- the container version of an export's bytes, where there is one
 abbrev pub version_of : List ℕ → Option json.Data
 version_of bytes = option_and_then version_in (json_of bytes)
 
--- the container of a container version
-abbrev pub container_at : json.Data → Container
-container_at version = container_of (entries_of version)
+-- what is loaded of entries
+abbrev pub loaded_of : WrittenEntries → Loaded
+loaded_of written = record { container = container_of written }
+
+-- what is loaded of a container version
+abbrev pub loaded_at : json.Data → Loaded
+loaded_at version = loaded_of (entries_of version)
 
 -- the container of an export's bytes, where they have a container version
 abbrev pub container_in : List ℕ → Option Container
-container_in bytes = option_map container_at (version_of bytes)
+container_in bytes = option_map (λ version. (loaded_at version).container) (version_of bytes)

@@ -1,6 +1,6 @@
 -- The first broken rule of an export.
-use Rattle.std.specs.Prelude.{◌≡◌, ℕ, List, [], ◌∷◌, ◌++◌, Option, Some, None, option_map}
-use Rattle.std.specs.Prelude.{option_and_then, slice_get, Result, Ok, Err}
+use Rattle.std.specs.Prelude.{◌≡◌, ℕ, List, [], ◌∷◌, Option, Some, None, option_map, slice_get}
+use Rattle.std.specs.Prelude.{Result, Ok, Err}
 use Rattle.std.specs.List.{filter_map}
 use Rattle.std.specs.Option.{option_map_or}
 use Rattle.serde_json.specs.Data as json
@@ -10,7 +10,6 @@ use Rattle.export_entries.specs.Entries.{entries_of}
 use Rattle.export_entries.specs.declared.entries.WrittenEntries.{WrittenEntries}
 use Rattle.export_model.specs.declared.container.Container.{Container}
 use Rattle.export_numbers.specs.Container.{container_of}
-use Rattle.export_reader.specs.Container.{container_in}
 use Rattle.export_reader.specs.Rules.{too_large, not_json, other_format, version_in, no_version}
 use Rattle.export_reader.specs.Rules.{not_web, field_kind, duplicate_id, duplicate_name}
 use Rattle.export_reader.specs.Rules.{unknown_trigger, unknown_sequence_tag, unknown_template}
@@ -28,6 +27,7 @@ container_rules written container =
     (16, variable_cycle container)
     ∷ (17, group_cycle container)
     ∷ (18, priority_text written)
+    ∷ (29, not_built written)
     ∷ []
 
 -- the rules of what entries refer to
@@ -57,15 +57,13 @@ tree_rules d =
     ∷ (6, no_version d)
     ∷ option_map_or version_rules (version_in d) []
 
--- the rules of an export's bytes
-unfoldable pub rules_of : List ℕ → List Rule
-rules_of bytes =
-    (1, too_large bytes) ∷ (2, not_json (json_of bytes))
-    ∷ option_map_or tree_rules (json_of bytes) []
+-- the rules of bytes and of the tree that they are, if they are one
+unfoldable pub rules_of : List ℕ → Option json.Data → List Rule
+rules_of bytes tree = (1, too_large bytes) ∷ (2, not_json tree) ∷ option_map_or tree_rules tree []
 
--- the same, and behind them what is not built yet
+-- the rules of an export's bytes
 unfoldable pub export_rules : List ℕ → List Rule
-export_rules bytes = rules_of bytes ++ (29, option_and_then not_built (container_in bytes)) ∷ []
+export_rules bytes = rules_of bytes (json_of bytes)
 
 -- a rule with its path, where it is broken
 abbrev pub broken : Rule → Option (ℕ × List ℕ)
@@ -88,10 +86,10 @@ abbrev pub Refuses : List Rule → ExportEnd → Type 0
 Refuses rules OutOfMemory = Unit {0}
 Refuses rules (Refused rule path) = first_of rules ≡ Some (rule, path)
 
--- where none of these rules is broken the container is given, and else the first broken one is told
-abbrev pub Judges : Result Container ExportEnd → List Rule → Option Container → Type 0
-Judges (Ok made) rules container = (first_of rules ≡ None) × (container ≡ Some made)
-Judges (Err end) rules container = Refuses rules end
+-- where none of these rules is broken this is given, and else the first broken one is told
+abbrev pub Judges : {T : Type 0} → Result T ExportEnd → List Rule → Option T → Type 0
+Judges (Ok made) rules given = (first_of rules ≡ None) × (given ≡ Some made)
+Judges (Err end) rules given = Refuses rules end
 
 -- memory was wanting
 abbrev pub IsOutOfMemory : ExportEnd → Type 0

@@ -143,10 +143,10 @@ first_entry key [] = None
 first_entry key (x ∷ xs) = Some (entry_path key 0)
 
 -- rule 29: there is an entry, of which none is run yet
-unfoldable pub not_built : Container → Option (List ℕ)
-not_built c =
-    first_entry (codes "tag") c.tags
-    then first_entry (codes "trigger") c.triggers
-    then first_entry (codes "variable") c.variables
-    then first_entry (codes "builtInVariable") c.built_ins
-    then first_entry (codes "customTemplate") c.templates
+unfoldable pub not_built : WrittenEntries → Option (List ℕ)
+not_built written =
+    first_entry (codes "tag") written.tags
+    then first_entry (codes "trigger") written.triggers
+    then first_entry (codes "variable") written.variables
+    then first_entry (codes "builtInVariable") written.built_ins
+    then first_entry (codes "customTemplate") written.templates

@@ -1,16 +1,18 @@
 ghost use Rattle.std.specs.Prelude.{◌≡◌, Some, None, IfOk, codes};
-ghost use Rattle.export_model.specs.Sound.{IsConsistent};
+ghost use Rattle.export_model.specs.Sound.{Sound};
 ghost use Rattle.export_numbers.specs.Container.{container_of};
+ghost use Rattle.export_reader.specs.Container.{loaded_of};
 ghost use Rattle.export_reader.specs.FirstBroken.{entries_rules, reference_rules, container_rules};
 ghost use Rattle.export_reader.specs.FirstBroken.{Judges};
 ghost use Rattle.export_reader.specs.Rules as rules;
 
 use crate::cycles::{group_cycle, variable_cycle};
+use crate::loading::Loaded;
+use crate::not_built::not_built;
 use crate::paths::in_version;
 use crate::repeats::{duplicate_id, duplicate_name};
 use crate::top::ExportEnd;
 use export_entries::WrittenEntries;
-use export_model::Container;
 use export_numbers::container_of;
 use export_references::{priority_text, unknown_sequence_tag, unknown_template, unknown_trigger};
 use gtm_base::{OutOfMemory, Text};
@@ -18,9 +20,9 @@ use std::alloc::Global;
 
 /// The container of entries, or the first of the rules from 9 on that they break.
 #[tactic(auto, unfolding(crate::specs::FirstBroken::entries_rules))]
-pub fn judge_entries(alloc: Global, written: &WrittenEntries) -> Result<Container, ExportEnd>
-    ensures judged { Judges result (entries_rules written.now) (Some (container_of written.now)) }
-    ensures consistent { IfOk result IsConsistent }
+pub fn judge_entries(alloc: Global, written: &WrittenEntries) -> Result<Loaded, ExportEnd>
+    ensures judged { Judges result (entries_rules written.now) (Some (loaded_of written.now)) }
+    ensures sound { IfOk result (λ loaded. Sound loaded.container) }
 {
     if let Some(path) = duplicate_id(alloc, written)? {
         return Err(ExportEnd::Refused { rule: 9, path });
@@ -33,9 +35,9 @@ pub fn judge_entries(alloc: Global, written: &WrittenEntries) -> Result<Containe
 
 // The container of entries, or the first of the rules from 11 on that they break.
 #[tactic(auto, unfolding(crate::specs::FirstBroken::reference_rules))]
-fn judge_references(alloc: Global, written: &WrittenEntries) -> Result<Container, ExportEnd>
-    ensures judged { Judges result (reference_rules written.now) (Some (container_of written.now)) }
-    ensures consistent { IfOk result IsConsistent }
+fn judge_references(alloc: Global, written: &WrittenEntries) -> Result<Loaded, ExportEnd>
+    ensures judged { Judges result (reference_rules written.now) (Some (loaded_of written.now)) }
+    ensures sound { IfOk result (λ loaded. Sound loaded.container) }
 {
     if let Some(path) = trigger_path(alloc, written)? {
         return Err(ExportEnd::Refused { rule: 11, path });
@@ -51,10 +53,10 @@ fn judge_references(alloc: Global, written: &WrittenEntries) -> Result<Container
 
 // The container of entries, or the first of the rules from 16 on that it breaks.
 #[tactic(auto, unfolding(crate::specs::FirstBroken::container_rules))]
-fn judge_container(alloc: Global, written: &WrittenEntries) -> Result<Container, ExportEnd>
+fn judge_container(alloc: Global, written: &WrittenEntries) -> Result<Loaded, ExportEnd>
     ensures judged { Judges result (container_rules written.now (container_of written.now))
-        (Some (container_of written.now)) }
-    ensures consistent { IfOk result IsConsistent }
+        (Some (loaded_of written.now)) }
+    ensures sound { IfOk result (λ loaded. Sound loaded.container) }
 {
     let container = container_of(alloc, written)?;
     if let Some(path) = variable_cycle(alloc, &container)? {
@@ -66,7 +68,10 @@ fn judge_container(alloc: Global, written: &WrittenEntries) -> Result<Container,
     if let Some(path) = priority_path(alloc, written)? {
         return Err(ExportEnd::Refused { rule: 18, path });
     }
-    Ok(container)
+    if let Some(path) = not_built(alloc, written)? {
+        return Err(ExportEnd::Refused { rule: 29, path });
+    }
+    Ok(Loaded { container })
 }
 
 // The path of the first number of a trigger that stands for none.

@@ -1,17 +1,17 @@
 ghost use Rattle.std.specs.Prelude.{◌≡◌, [], None, Some, IfOk, option_map, codes, if◌then◌else◌};
 ghost use Rattle.serde_json.specs.View.{view};
 ghost use Rattle.export_fields.specs.Fault.{in_key};
-ghost use Rattle.export_model.specs.Sound.{IsConsistent};
-ghost use Rattle.export_reader.specs.Container.{container_at};
+ghost use Rattle.export_model.specs.Sound.{Sound};
+ghost use Rattle.export_reader.specs.Container.{loaded_at};
 ghost use Rattle.export_reader.specs.FirstBroken.{tree_rules, version_rules, Judges};
 ghost use Rattle.export_reader.specs.Rules as rules;
 
 use crate::contexts::not_web;
 use crate::entries::judge_entries;
+use crate::loading::Loaded;
 use crate::top::ExportEnd;
 use export_entries::read_entries;
 use export_fields::{ReadEnd, key_before};
-use export_model::Container;
 use gtm_base::{OutOfMemory, Text};
 use gtm_data::{DataEnd, check_json};
 use serde_json::Value;
@@ -19,10 +19,10 @@ use std::alloc::Global;
 
 /// The container of an export's tree, or the first of the rules from 3 on that it breaks.
 #[tactic(auto, unfolding(crate::specs::FirstBroken::tree_rules))]
-pub fn judge_tree(alloc: Global, tree: &Value) -> Result<Container, ExportEnd>
+pub fn judge_tree(alloc: Global, tree: &Value) -> Result<Loaded, ExportEnd>
     ensures judged { Judges result (tree_rules (view tree.now))
-        (option_map container_at (rules.version_in (view tree.now))) }
-    ensures consistent { IfOk result IsConsistent }
+        (option_map loaded_at (rules.version_in (view tree.now))) }
+    ensures sound { IfOk result (λ loaded. Sound loaded.container) }
 {
     match check_json(alloc, tree) {
         Err(DataEnd::OutOfMemory) => return Err(ExportEnd::OutOfMemory),
@@ -72,10 +72,10 @@ fn version_in(tree: &Value) -> Option<&Value>
 
 // The container of a container version, or the first of the rules from 7 on that it breaks.
 #[tactic(auto, unfolding(crate::specs::FirstBroken::version_rules))]
-fn judge_version(alloc: Global, version: &Value) -> Result<Container, ExportEnd>
+fn judge_version(alloc: Global, version: &Value) -> Result<Loaded, ExportEnd>
     ensures judged { Judges result (version_rules (view version.now))
-        (Some (container_at (view version.now))) }
-    ensures consistent { IfOk result IsConsistent }
+        (Some (loaded_at (view version.now))) }
+    ensures sound { IfOk result (λ loaded. Sound loaded.container) }
 {
     if let Some(path) = not_web(alloc, version)? {
         return Err(ExportEnd::Refused { rule: 7, path });

@@ -1,6 +1,11 @@
-use export_reader::{ExportEnd, read_container, read_export};
+use export_entries::read_entries;
+use export_model::Container;
+use export_numbers::container_of;
+use export_reader::{ExportEnd, read_export};
 use gtm_base::{OutOfMemory, Text};
+use gtm_data::json_of;
 use std::alloc::Global;
+use std::test::Fail;
 
 /// An export or a part of one, the least rule that it breaks, and the first path of that rule.
 pub struct Row {
@@ -10,23 +15,22 @@ pub struct Row {
     pub path: &'static str,
 }
 
-/// The rule that is told of an export and its path, or 0 and the empty path where its container is
-/// read.
+/// The rule that is told of an export and its path, or 0 and the empty path where it is read.
 pub fn told(alloc: Global, export: &[u8]) -> Result<(u8, Text), OutOfMemory> {
-    match read_container(alloc, export) {
+    match read_export(alloc, export) {
         Ok(_) => Ok((0, Text::new(alloc))),
         Err(ExportEnd::Refused { rule, path }) => Ok((rule, path)),
         Err(ExportEnd::OutOfMemory) => Err(OutOfMemory),
     }
 }
 
-/// The same with the last rule, which refuses what is not run yet.
-pub fn told_whole(alloc: Global, export: &[u8]) -> Result<(u8, Text), OutOfMemory> {
-    match read_export(alloc, export) {
-        Ok(_) => Ok((0, Text::new(alloc))),
-        Err(ExportEnd::Refused { rule, path }) => Ok((rule, path)),
-        Err(ExportEnd::OutOfMemory) => Err(OutOfMemory),
-    }
+/// The container that the entries of an export stand for, whatever rules it breaks.
+pub fn container_in(alloc: Global, export: &[u8]) -> Result<Container, Fail> {
+    let tree = json_of(alloc, export)?.ok_or("no JSON")?;
+    let version = tree.get("containerVersion").ok_or("no version")?;
+    let written = read_entries(alloc, version)?;
+    let container = container_of(alloc, &written)?;
+    Ok(container)
 }
 
 /// The export whose container version has these members.

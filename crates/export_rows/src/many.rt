@@ -1,5 +1,4 @@
-use crate::judging::{told, with_version};
-use export_reader::read_container;
+use crate::judging::{container_in, told, with_version};
 use gtm_base::{OutOfMemory, Text};
 use std::alloc::Global;
 use std::test::Fail;
@@ -12,7 +11,7 @@ fn an_export_of_many_tags(rt: HostRuntime) -> Result<(), Fail> {
     let alloc = rt.alloc();
     let members = many_tags(alloc)?;
     let export = with_version(alloc, members.as_str().as_bytes())?;
-    let container = read_container(alloc, &export)?;
+    let container = container_in(alloc, &export)?;
     assert_eq!(rt; container.tags.len(), 20_000, "tags");
     let last = container.tags.get(19_999).ok_or("no last tag")?;
     assert_eq!(rt; last.name.as_str(), "Tag 20000", "the last tag");
@@ -25,8 +24,13 @@ fn a_chain_of_many_variables(rt: HostRuntime) -> Result<(), Fail> {
     let alloc = rt.alloc();
     let members = many_variables(alloc, MANY.saturating_add(1))?;
     let export = with_version(alloc, members.as_str().as_bytes())?;
-    let (rule, _) = told(alloc, &export)?;
-    assert_eq!(rt; rule, 0, "a chain");
+    let (rule, path) = told(alloc, &export)?;
+    assert_eq!(rt; rule, 29, "a chain");
+    assert_eq!(rt;
+        path.as_str(),
+        "/containerVersion/variable/0",
+        "the first variable"
+    );
     Ok(())
 }
 

@@ -1,8 +1,7 @@
-use crate::judging::with_version;
+use crate::judging::{container_in, with_version};
 use crate::model::is_literal;
 use export_model::{NameRef, ParamValue, Piece, Pieces};
 use export_params::{Names, pieces_of};
-use export_reader::read_container;
 use gtm_base::Text;
 use std::test::Fail;
 
@@ -91,7 +90,7 @@ const KINDS: &[u8] =
 #[test]
 fn parameters_of_each_kind(rt: HostRuntime) -> Result<(), Fail> {
     let alloc = rt.alloc();
-    let container = read_container(alloc, &with_version(alloc, KINDS)?)?;
+    let container = container_in(alloc, &with_version(alloc, KINDS)?)?;
     let tag = container.tags.get(0).ok_or("no tag")?;
     let [number, broken, truth, word, list, map, reference] = tag.params.as_slice() else {
         return Err("other than seven parameters".into());

@@ -1,8 +1,8 @@
+use crate::judging::container_in;
 use crate::model::{is_literal, only_name, only_text};
 use export_model::{
     FiringOption, NameRef, Op, ParamValue, Tag, TagKind, TriggerKind, TriggerRef, VariableKind,
 };
-use export_reader::read_container;
 use std::test::Fail;
 
 // An export of two tags, a trigger, a variable, a built-in variable and a custom template.
@@ -13,7 +13,7 @@ const EXPORT: &[u8] =
 // trigger that never holds.
 #[test]
 fn a_realistic_export(rt: HostRuntime) -> Result<(), Fail> {
-    let container = read_container(rt.alloc(), EXPORT)?;
+    let container = container_in(rt.alloc(), EXPORT)?;
     assert_eq!(rt; container.version_id.as_str(), "0", "containerVersionId");
     assert_eq!(rt; container.public_id.as_str(), "GTM-ABC123", "publicId");
     assert_eq!(rt; container.tags.len(), 2, "tags");
@@ -28,7 +28,7 @@ fn a_realistic_export(rt: HostRuntime) -> Result<(), Fail> {
 // The first tag is of a type of Google's, fires on every page, and names the built-in variable.
 #[test]
 fn the_tag_of_an_event(rt: HostRuntime) -> Result<(), Fail> {
-    let container = read_container(rt.alloc(), EXPORT)?;
+    let container = container_in(rt.alloc(), EXPORT)?;
     let tag = container.tags.get(0).ok_or("no first tag")?;
     assert_eq!(rt; tag.id.as_str(), "3", "tagId");
     assert_eq!(rt; tag.name.as_str(), "GA4", "name");
@@ -63,7 +63,7 @@ fn the_tag_of_an_event(rt: HostRuntime) -> Result<(), Fail> {
 // The second tag is the template's, fires on the trigger, names the variable, and needs consent.
 #[test]
 fn the_tag_of_a_pixel(rt: HostRuntime) -> Result<(), Fail> {
-    let container = read_container(rt.alloc(), EXPORT)?;
+    let container = container_in(rt.alloc(), EXPORT)?;
     let tag = container.tags.get(1).ok_or("no second tag")?;
     assert_eq!(rt; tag.id.as_str(), "4", "tagId");
     assert_eq!(rt; tag.name.as_str(), "Pixel", "name");
@@ -102,7 +102,7 @@ fn is_plain_turn(tag: &Tag) -> bool {
 // The trigger holds at every event whose name is `purchase`.
 #[test]
 fn the_trigger_of_a_purchase(rt: HostRuntime) -> Result<(), Fail> {
-    let container = read_container(rt.alloc(), EXPORT)?;
+    let container = container_in(rt.alloc(), EXPORT)?;
     let trigger = container.triggers.get(0).ok_or("no trigger")?;
     assert_eq!(rt; trigger.id.as_str(), "5", "triggerId");
     assert_eq!(rt; trigger.name.as_str(), "Purchase", "name");
@@ -128,7 +128,7 @@ fn the_trigger_of_a_purchase(rt: HostRuntime) -> Result<(), Fail> {
 // The variable is of the data layer's second version, and its value is not changed.
 #[test]
 fn the_variable_of_a_value(rt: HostRuntime) -> Result<(), Fail> {
-    let container = read_container(rt.alloc(), EXPORT)?;
+    let container = container_in(rt.alloc(), EXPORT)?;
     let variable = container.variables.get(0).ok_or("no variable")?;
     assert_eq!(rt; variable.id.as_str(), "6", "variableId");
     assert_eq!(rt; variable.name.as_str(), "Value", "name");
@@ -158,7 +158,7 @@ fn the_variable_of_a_value(rt: HostRuntime) -> Result<(), Fail> {
 
 #[test]
 fn the_built_in_variable_and_the_template(rt: HostRuntime) -> Result<(), Fail> {
-    let container = read_container(rt.alloc(), EXPORT)?;
+    let container = container_in(rt.alloc(), EXPORT)?;
     let built_in = container.built_ins.get(0).ok_or("no built-in variable")?;
     assert_eq!(rt; built_in.word.as_str(), "EVENT", "type");
     assert_eq!(rt; built_in.name.as_str(), "Event", "name");

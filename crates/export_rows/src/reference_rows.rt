@@ -1,8 +1,8 @@
-use crate::judging::{Row, told, told_whole, with_version};
+use crate::judging::{Row, told, with_version};
 use std::test::Fail;
 
-// Members of a container version, with names, references and rings. Rule 0 says that its container
-// is read.
+// Members of a container version, with names, references and rings. Rule 29 says that no other rule is
+// broken: it has entries, of which none is run yet.
 const REFERENCES: &[Row] = &[
     Row {
         name: "a firing trigger that is none",
@@ -25,8 +25,8 @@ const REFERENCES: &[Row] = &[
     Row {
         name: "reserved numbers of any length",
         text: br#""tag":[{"tagId":"1","name":"A","type":"html","firingTriggerId":["2147479553","2147479572","2147479573","2147479999","99999999999999999999999999"],"blockingTriggerId":["02147479000"]}]"#,
-        rule: 0,
-        path: "",
+        rule: 29,
+        path: "/containerVersion/tag/0",
     },
     Row {
         name: "a reserved number with a sign",
@@ -37,8 +37,8 @@ const REFERENCES: &[Row] = &[
     Row {
         name: "a trigger of the container's own with a reserved number",
         text: br#""tag":[{"tagId":"1","name":"A","type":"html","firingTriggerId":["2147479553"]}],"trigger":[{"triggerId":"2147479553","type":"CLICK"}]"#,
-        rule: 0,
-        path: "",
+        rule: 29,
+        path: "/containerVersion/tag/0",
     },
     Row {
         name: "a member that is none",
@@ -55,8 +55,8 @@ const REFERENCES: &[Row] = &[
     Row {
         name: "members of a trigger that is no group",
         text: br#""trigger":[{"triggerId":"1","type":"CLICK","parameter":[{"type":"LIST","key":"triggerIds","list":[{"type":"TRIGGER_REFERENCE","value":"9"}]}]}]"#,
-        rule: 0,
-        path: "",
+        rule: 29,
+        path: "/containerVersion/trigger/0",
     },
     Row {
         name: "a tag's number before a member's",
@@ -85,8 +85,8 @@ const REFERENCES: &[Row] = &[
     Row {
         name: "a tag as its own setup tag",
         text: br#""tag":[{"tagId":"1","name":"A","type":"html","setupTag":[{"tagName":"A"}]}]"#,
-        rule: 0,
-        path: "",
+        rule: 29,
+        path: "/containerVersion/tag/0",
     },
     // Rules 11 and 14.
     Row {
@@ -110,14 +110,14 @@ const REFERENCES: &[Row] = &[
     Row {
         name: "templates by their container and by the gallery",
         text: br#""tag":[{"tagId":"1","name":"A","type":"cvt_1_2"},{"tagId":"2","name":"B","type":"cvt_X"}],"customTemplate":[{"templateId":"2","containerId":"1","templateData":"","galleryReference":{"galleryTemplateId":"X"}}]"#,
-        rule: 0,
-        path: "",
+        rule: 29,
+        path: "/containerVersion/tag/0",
     },
     Row {
         name: "a type with other letters",
         text: br#""tag":[{"tagId":"1","name":"A","type":"CVT_1_2"}],"variable":[{"variableId":"1","name":"V","type":"cvt"}]"#,
-        rule: 0,
-        path: "",
+        rule: 29,
+        path: "/containerVersion/tag/0",
     },
     // Rules 14 and 15.
     Row {
@@ -177,20 +177,20 @@ const REFERENCES: &[Row] = &[
     Row {
         name: "a built-in variable, a name that nothing has, and the event's name",
         text: br#""variable":[{"variableId":"1","name":"A","type":"c","parameter":[{"type":"TEMPLATE","key":"value","value":"{{B}}{{C}}"}]},{"variableId":"2","name":"_event","type":"c","parameter":[{"type":"TEMPLATE","key":"value","value":"{{_event}}"}]}],"builtInVariable":[{"type":"EVENT","name":"B"}]"#,
-        rule: 0,
-        path: "",
+        rule: 29,
+        path: "/containerVersion/variable/0",
     },
     Row {
         name: "a name that is not closed",
         text: br#""variable":[{"variableId":"1","name":"A","type":"c","parameter":[{"type":"TEMPLATE","key":"value","value":"{{A"}]},{"variableId":"2","name":"B","type":"c","parameter":[{"type":"TEMPLATE","key":"value","value":"{{A}} }}B{{"}]},{"variableId":"3","name":"C","type":"c","parameter":[{"type":"TEMPLATE","key":"value","value":"{C}"}]}]"#,
-        rule: 0,
-        path: "",
+        rule: 29,
+        path: "/containerVersion/variable/0",
     },
     Row {
         name: "a reference to a trigger that looks like a name",
         text: br#""variable":[{"variableId":"1","name":"A","type":"c","parameter":[{"type":"TRIGGER_REFERENCE","key":"value","value":"{{A}}"}]}]"#,
-        rule: 0,
-        path: "",
+        rule: 29,
+        path: "/containerVersion/variable/0",
     },
     Row {
         name: "a group that is its own member",
@@ -207,8 +207,8 @@ const REFERENCES: &[Row] = &[
     Row {
         name: "a group whose condition names a variable of its number",
         text: br#""trigger":[{"triggerId":"1","type":"TRIGGER_GROUP","parameter":[{"type":"LIST","key":"triggerIds","list":[{"type":"TRIGGER_REFERENCE","value":"2"}]}],"filter":[{"type":"EQUALS","parameter":[{"type":"TEMPLATE","key":"arg0","value":"{{1}}"}]}]},{"triggerId":"2","type":"CLICK"}],"variable":[{"variableId":"1","name":"1","type":"c","parameter":[{"type":"TEMPLATE","key":"value","value":"a"}]}]"#,
-        rule: 0,
-        path: "",
+        rule: 29,
+        path: "/containerVersion/trigger/0",
     },
     // Rules 16 and 17.
     Row {
@@ -285,6 +285,12 @@ const ENTRIES: &[Row] = &[
         path: "/containerVersion/tag/0",
     },
     Row {
+        name: "a priority of 0",
+        text: br#""tag":[{"tagId":"1","name":"A","type":"html","priority":{"value":"0"}}]"#,
+        rule: 29,
+        path: "/containerVersion/tag/0",
+    },
+    Row {
         name: "a trigger, a variable and a template",
         text: br#""trigger":[{"triggerId":"1","type":"CLICK"}],"variable":[{"variableId":"1","name":"A","type":"c"}],"customTemplate":[{"templateId":"1","containerId":"2","templateData":""}]"#,
         rule: 29,
@@ -351,11 +357,11 @@ fn entries_that_are_not_run_yet(rt: HostRuntime) -> Result<(), Fail> {
     let alloc = rt.alloc();
     for row in ENTRIES {
         let export = with_version(alloc, row.text)?;
-        let (rule, path) = told_whole(alloc, &export)?;
+        let (rule, path) = told(alloc, &export)?;
         assert_eq!(rt; rule, row.rule, "{}", row.name);
         assert_eq!(rt; path.as_str(), row.path, "{}", row.name);
     }
-    let (rule, path) = told_whole(alloc, br#"{"exportFormatVersion":2,"containerVers"#)?;
+    let (rule, path) = told(alloc, br#"{"exportFormatVersion":2,"containerVers"#)?;
     assert_eq!(rt; rule, 2, "half of an export");
     assert_eq!(rt; path.as_str(), "", "half of an export");
     Ok(())
