@@ -1,10 +1,12 @@
 -- What each entry of a container names is there.
-use Rattle.std.proofs.Common.{◌≡◌, ℕ, List, [], ◌∷◌, length, map, Bool, true, false, sym, subst}
+use Rattle.std.proofs.Common.{◌≡◌, ◌<◌, ◌^◌, ℕ, List, [], ◌∷◌, length, map, Bool, true, false, sym}
+use Rattle.std.proofs.Common.{subst}
 use Rattle.std.specs.Prelude.{Result, Ok, Err, IfOk, Option, Some, None, IfSome, All, option_map}
 use Rattle.std.specs.Prelude.{unwrap_or, if◌then◌else◌, codes}
 use Rattle.std.specs.List.{flat_map, AllByRecursion}
 use Rattle.std.specs.Option.{option_map_or}
 use Rattle.std.specs.Str.{bytes_eq}
+use Rattle.std.proofs.lemmas.List.{length-map}
 use Rattle.std.proofs.lemmas.List.Elements.{All-nil, All-cons, All-head, All-tail, All-append}
 use Rattle.std.proofs.lemmas.List.Elements.{All-weaker}
 use Rattle.text_places.specs.Places.{place_of}
@@ -23,7 +25,7 @@ use Rattle.export_model.specs.Names.{names_of_condition}
 use Rattle.export_model.specs.Params.{value_of, params_of}
 use Rattle.export_model.specs.Sound.{IsNameIn, IsTriggerIn, IsSequenceIn, IsTagKindIn}
 use Rattle.export_model.specs.Sound.{IsVariableKindIn, IsTagIn, IsTriggerEntryIn, IsVariableIn}
-use Rattle.export_model.specs.Sound.{InRange}
+use Rattle.export_model.specs.Sound.{InRange, HasSmallLists}
 use Rattle.export_model.specs.declared.conditions.Condition.{Condition}
 use Rattle.export_model.specs.declared.container.Container.{Container}
 use Rattle.export_model.specs.declared.params.NameRef.{NameRef}
@@ -36,18 +38,20 @@ use Rattle.export_params.proofs.LookUps.{no_name_in_empty, looked_up, all_names}
 use Rattle.export_params.specs.LookedUp.{IsLookedUp}
 use Rattle.export_params.specs.Names.{name_ref}
 use Rattle.export_params.specs.Params as turned
-use Rattle.export_names.specs.Lists.{Lists, lists_of}
+use Rattle.export_names.specs.Lists.{Lists, lists_of, HasFewEntries}
 use Rattle.export_names.specs.Members.{member_ids}
 use Rattle.export_names.specs.TriggerRefs.{built_in_triggers, built_in_trigger, trigger_ref}
 use Rattle.export_names.specs.Types.{template_at}
 use Rattle.export_names.specs.Values.{first_with}
 use Rattle.export_numbers.proofs.Ranges.{Within, place_within, lower_within, within_same}
-use Rattle.export_numbers.proofs.Ranges.{same_length}
+use Rattle.export_numbers.proofs.Ranges.{same_length, zipped_length}
 use Rattle.export_numbers.specs.Conditions.{empty_param, condition_of, conditions_of}
 use Rattle.export_numbers.specs.Container.{container_of}
 use Rattle.export_numbers.specs.Tags as tags
+use Rattle.export_numbers.specs.Templates.{AreRead}
 use Rattle.export_numbers.specs.TriggerEntries.{trigger_of}
 use Rattle.export_numbers.specs.Variables as variables
+use Rattle.export_templates.specs.declared.readings.TemplateReading.{TemplateReading}
 
 or_later : {W : Type 0} (P : W → Type 0) (here : W) (test : Bool) (later : Option W) → P here
     → IfSome later P → IfSome (if test then Some here else later) P
@@ -80,9 +84,10 @@ all_inside P inside (a ∷ items) all =
     All-append P (inside a) (flat_map inside items) (All-head (λ x. All P (inside x)) a items all)
     (all_inside P inside items (All-tail (λ x. All P (inside x)) a items all))
 
-module _ (written : WrittenEntries) where
+module _ (readings : List TemplateReading) (written : WrittenEntries)
+    (read : AreRead readings written.templates) where
   abbrev made : Container
-  made = container_of written
+  made = container_of readings written
 
   abbrev lists : Lists
   lists = lists_of written
@@ -109,8 +114,9 @@ module _ (written : WrittenEntries) where
   template_within : (kind : List ℕ) → Within (length made.templates) (template_at lists.types kind)
   template_within kind =
       lower_within _ (place_of kind lists.types.own) (place_of kind lists.types.gallery)
-      (within_same _ _ _ (same_length _ _ written.templates) (place_within kind lists.types.own))
-      (within_same _ _ _ (same_length _ _ written.templates)
+      (within_same _ _ _ (zipped_length _ _ readings written.templates read)
+      (place_within kind lists.types.own))
+      (within_same _ _ _ (zipped_length _ _ readings written.templates read)
       (place_within kind lists.types.gallery))
 
   -- names
@@ -279,7 +285,30 @@ module _ (written : WrittenEntries) where
   }
 
 -- so is every number of what is made of entries
-pub made_in_range : (written : WrittenEntries) {E : Type 0} (result : Result Container E)
-    → IfOk result (λ made. made ≡ container_of written) → IfOk result InRange
-made_in_range written (Ok container) is = subst InRange (sym is) (in_range written)
-made_in_range written (Err end) is = tt
+pub made_in_range : (readings : List TemplateReading) (written : WrittenEntries)
+    → AreRead readings written.templates → {E : Type 0} (result : Result Container E)
+    → IfOk result (λ made. made ≡ container_of readings written) → IfOk result InRange
+made_in_range readings written read (Ok container) is =
+    subst InRange (sym is) (in_range readings written read)
+made_in_range readings written read (Err end) is = tt
+
+-- with few entries of each kind, the lists of what is made of them are short
+pub made_small : (readings : List TemplateReading) (written : WrittenEntries)
+    → AreRead readings written.templates → HasFewEntries written → {E : Type 0}
+    (result : Result Container E) → IfOk result (λ made. made ≡ container_of readings written)
+    → IfOk result HasSmallLists
+made_small readings written read few (Ok container) is =
+    subst HasSmallLists (sym is) (record {
+      tags = of_length _ written.tags few.tags;
+      triggers = of_length _ written.triggers few.triggers;
+      variables = of_length _ written.variables few.variables;
+      built_ins = of_length _ written.built_ins few.built_ins;
+      templates =
+          subst (λ n. n < 2 ^ 32) (zipped_length (λ t. t) _ readings written.templates read)
+          (of_length _ written.templates few.templates);
+    })
+  where
+    of_length : {A B : Type 0} (f : A → B) (items : List A) → length items < 2 ^ 32
+        → length (map f items) < 2 ^ 32
+    of_length f items lower = rw (length-map items f) lower
+made_small readings written read few (Err end) is = tt

@@ -1,5 +1,5 @@
+pub mod EntriesInRange
 pub mod Firsts
 pub mod Groups
-pub mod Told
-pub mod EntriesInRange
 pub mod Ranges
+pub mod Told

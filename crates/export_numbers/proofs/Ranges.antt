@@ -2,6 +2,7 @@
 use Rattle.std.proofs.Common.{◌≡◌, ◌<◌, ℕ, suc, List, [], ◌∷◌, length, map, Bool, true, false, refl}
 use Rattle.std.proofs.Common.{ap, subst, arith}
 use Rattle.std.specs.Prelude.{Option, Some, None, IfSome, option_map, if◌then◌else◌}
+use Rattle.std.specs.List.{zip}
 use Rattle.std.specs.Str.{bytes_eq}
 use Rattle.text_places.specs.Places.{place_of, lower_place}
 
@@ -39,3 +40,16 @@ pub same_length : {A B C : Type 0} (f : A → B) (g : A → C) (items : List A)
     → length (map f items) ≡ length (map g items)
 same_length f g [] = refl
 same_length f g (x ∷ items) = ap suc (same_length f g items)
+
+suc_same : (m n : ℕ) → suc m ≡ suc n → m ≡ n
+suc_same m n is = omega arith
+
+-- a list made of two lists of one length has that length
+pub zipped_length : {A B C D : Type 0} (f : A → C) (g : B × A → D) (others : List B)
+    (items : List A) → length others ≡ length items
+    → length (map f items) ≡ length (map g (zip others items))
+zipped_length f g [] [] same = refl
+zipped_length f g [] (x ∷ items) same = absurd (omega arith)
+zipped_length f g (y ∷ others) [] same = absurd (omega arith)
+zipped_length f g (y ∷ others) (x ∷ items) same =
+    ap suc (zipped_length f g others items (suc_same _ _ same))

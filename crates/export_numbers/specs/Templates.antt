@@ -1,12 +1,15 @@
 -- The custom templates of an export as those of the model.
-use Rattle.std.specs.Prelude.{[], false}
+use Rattle.std.specs.Prelude.{◌≡◌, List, [], false, length, map}
+use Rattle.std.specs.List.{zip}
 use Rattle.export_entries.specs.declared.templates.WrittenTemplate.{WrittenTemplate}
 use Rattle.export_model.specs.declared.templates.Template.{Template}
 use Rattle.export_names.specs.Types.{names_of}
+use Rattle.export_templates.specs.declared.readings.TemplateReading.{TemplateReading}
+use Rattle.export_templates.specs.declared.readings.TemplateReading.TheVariants.{Unread}
 
--- the template that a written one stands for: its sections are read elsewhere
-abbrev pub template_of : WrittenTemplate → Template
-template_of written = record {
+-- the template that a written one with this reading stands for
+unfoldable pub template_of : TemplateReading → WrittenTemplate → Template
+template_of Unread written = record {
   id = written.id;
   name = written.name;
   names = names_of written;
@@ -14,3 +17,12 @@ template_of written = record {
   fields = [];
   warnings = [];
 }
+
+-- there is one reading for each template
+abbrev pub AreRead : List TemplateReading → List WrittenTemplate → Type 0
+AreRead readings templates = length readings ≡ length templates
+
+-- the templates that written ones stand for, each by its own reading
+abbrev pub templates_of : List TemplateReading → List WrittenTemplate → List Template
+templates_of readings templates =
+    map (λ read. template_of read.0 read.1) (zip readings templates)

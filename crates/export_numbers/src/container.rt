@@ -2,6 +2,7 @@ ghost use Rattle.std.specs.Prelude.{◌≡◌, ◌↔◌, ◌<◌, ◌^◌, map,
 ghost use Rattle.export_model.specs.Sound.{HasSmallLists, InRange};
 ghost use Rattle.export_names.specs.Types.{own_type, gallery_type};
 ghost use Rattle.export_numbers.specs.Container.{public_id_of, container_by, container_of};
+ghost use Rattle.export_numbers.specs.Templates.{AreRead};
 ghost use Rattle.export_names.specs.Lists.{HasFewEntries};
 
 use crate::built_ins::built_ins_of;
@@ -13,16 +14,22 @@ use crate::variables::variables_of;
 use export_entries::{WrittenContainer, WrittenEntries};
 use export_model::Container;
 use export_names::{Known, TypeTexts, known_of, name_refs, type_texts};
+use export_templates::TemplateReadings;
 use gtm_base::{OutOfMemory, Text};
 use std::alloc::Global;
 
 /// The container that the entries of an export stand for, in which each name is a number. A name
-/// that nothing has stands for nothing, and a template has no field yet.
+/// that nothing has stands for nothing. Of a template it has what its reading says.
 ///
 /// Fails where memory is wanting, and where a list has 2^32 entries or more: no memory holds so
 /// many.
-pub fn container_of(alloc: Global, written: &WrittenEntries) -> Result<Container, OutOfMemory>
-    ensures made { IfOk result (λ made. made ≡ container_of written.now) }
+pub fn container_of(
+    alloc: Global,
+    readings: &TemplateReadings,
+    written: &WrittenEntries,
+) -> Result<Container, OutOfMemory>
+    requires { AreRead readings.now written.now.templates }
+    ensures made { IfOk result (λ made. made ≡ container_of readings.now written.now) }
     ensures small { IfOk result HasSmallLists }
     ensures in_range { IfOk result InRange }
 {
@@ -30,32 +37,36 @@ pub fn container_of(alloc: Global, written: &WrittenEntries) -> Result<Container
         return Err(OutOfMemory);
     }
     let types = type_texts(alloc, &written.templates)?;
-    container_with(alloc, &types, written)
+    container_with(alloc, &types, readings, written)
 }
 
 // The container of entries whose templates have these types.
 fn container_with(
     alloc: Global,
     types: &TypeTexts,
+    readings: &TemplateReadings,
     written: &WrittenEntries,
 ) -> Result<Container, OutOfMemory>
     requires few { HasFewEntries written.now }
+    requires read { AreRead readings.now written.now.templates }
     requires own { types.now.own ≡ map own_type written.now.templates }
     requires gallery { types.now.gallery ≡ map gallery_type written.now.templates }
-    ensures { IfOk result (λ made. made ≡ container_of written.now) }
+    ensures { IfOk result (λ made. made ≡ container_of readings.now written.now) }
 {
     let refs = name_refs(alloc, types, written)?;
     let known = known_of(alloc, &refs)?;
-    container_by(alloc, &known, written)
+    container_by(alloc, &known, readings, written)
 }
 
 // The container of entries whose names become numbers by these lists.
 fn container_by(
     alloc: Global,
     known: &Known,
+    readings: &TemplateReadings,
     written: &WrittenEntries,
 ) -> Result<Container, OutOfMemory>
-    ensures { IfOk result (λ made. made ≡ container_by known.now written.now) }
+    requires { AreRead readings.now written.now.templates }
+    ensures { IfOk result (λ made. made ≡ container_by known.now readings.now written.now) }
 {
     let public_id = public_id_of(alloc, &written.container)?;
     let version_id = written.version_id.copy(alloc)?;
@@ -63,7 +74,7 @@ fn container_by(
     let triggers = triggers_of(alloc, known, &written.triggers)?;
     let variables = variables_of(alloc, known, &written.variables)?;
     let built_ins = built_ins_of(alloc, &written.built_ins)?;
-    let templates = templates_of(alloc, &written.templates)?;
+    let templates = templates_of(alloc, readings, &written.templates)?;
     let references = references_of(alloc, &known.triggers, &written.tags, &written.triggers)?;
     Ok(Container {
         public_id,

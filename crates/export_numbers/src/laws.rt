@@ -5,7 +5,8 @@ ghost use Rattle.export_model.specs.Sound.{InRange};
 ghost use Rattle.export_entries.specs.declared.entries.WrittenEntries.{WrittenEntries};
 ghost use Rattle.export_numbers.specs.Container.{container_of};
 ghost use Rattle.export_numbers.specs.References.{each_once, told_behind};
-ghost use Rattle.export_names.specs.Types.{types_of, template_at, first_using};
+ghost use Rattle.export_numbers.specs.Templates.{AreRead};
+ghost use Rattle.export_templates.specs.declared.readings.TemplateReading.{TemplateReading};
 ghost use Rattle.export_numbers.specs.Triggers.{kind_of, is_group_kind};
 ghost use Rattle.export_names.specs.Members.{is_group};
 
@@ -21,8 +22,9 @@ pub fn a_group_is_known_by_its_kind()
     ensures { (written : WrittenTrigger) → is_group written ≡ is_group_kind (kind_of written) }
 {}
 
-/// A law, with nothing to call: in the container of any entries each number is a place in the list
-/// that it names.
+/// A law, with nothing to call: in the container of any entries, with a reading for each template,
+/// each number is a place in the list that it names.
 pub fn every_number_is_in_range()
-    ensures { (written : WrittenEntries) → InRange (container_of written) }
+    ensures { (readings : List TemplateReading) (written : WrittenEntries)
+        → AreRead readings written.templates → InRange (container_of readings written) }
 {}

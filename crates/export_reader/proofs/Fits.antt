@@ -1,5 +1,5 @@
 -- A container without templates uses none.
-use Rattle.std.proofs.Common.{◌≡◌, ◌∙◌, ◌<◌, ℕ, List, [], ◌∷◌, length, map, Option, Some, None}
+use Rattle.std.proofs.Common.{◌≡◌, ◌∙◌, ◌<◌, ℕ, List, [], ◌∷◌, length, Option, Some, None}
 use Rattle.std.proofs.Common.{refl, ap, subst, arith}
 use Rattle.std.specs.Prelude.{codes}
 use Rattle.std.proofs.lemmas.List.Elements.{All-weaker}
@@ -17,8 +17,9 @@ use Rattle.export_model.specs.declared.variables.VariableKind.TheVariants.{Event
 use Rattle.export_model.specs.declared.variables.VariableKind.TheVariants.{RegexTable, Template}
 use Rattle.export_model.specs.declared.variables.VariableKind.TheVariants.{Unknown}
 use Rattle.export_numbers.specs.Container.{container_of}
-use Rattle.export_numbers.specs.Templates.{template_of}
+use Rattle.export_numbers.specs.Templates.{templates_of}
 use Rattle.export_reader.specs.Rules.{first_entry, not_built}
+use Rattle.export_templates.specs.declared.readings.TemplateReading.{TemplateReading}
 
 no_place : (c : Container) → c.templates ≡ [] → (at : ℕ) → at < length c.templates → ⊥
 no_place c none at lower =
@@ -75,10 +76,15 @@ no_templates written is =
     (none_first triggers (variables then built_ins then templates)
     (none_first tags (triggers then variables then built_ins then templates) is))))
 
+of_none : (readings : List TemplateReading) → templates_of readings [] ≡ []
+of_none [] = refl
+of_none (reading ∷ readings) = refl
+
 -- the container of entries that have nothing which is not built uses templates as what they are
-pub built_fits : (written : WrittenEntries) (c : Container) → c ≡ container_of written → InRange c
-    → None ≡ not_built written → FitsTemplates c
-built_fits written c made there built =
+pub built_fits : (readings : List TemplateReading) (written : WrittenEntries) (c : Container)
+    → c ≡ container_of readings written → InRange c → None ≡ not_built written → FitsTemplates c
+built_fits readings written c made there built =
     let none : c.templates ≡ [] =
-    ap (λ container. container.templates) made ∙ ap (map template_of) (no_templates written built) in
+    ap (λ container. container.templates) made
+    ∙ ap (templates_of readings) (no_templates written built) ∙ of_none readings in
     fits c none there

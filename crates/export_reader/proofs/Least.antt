@@ -1,5 +1,5 @@
 -- The first broken rule is the least.
-use Rattle.std.proofs.Common.{◌≡◌, ◌≤◌, ◌↔◌, ◌∙◌, ℕ, zero, suc, List, [], ◌∷◌, ◌++◌, Option, Some}
+use Rattle.std.proofs.Common.{◌≡◌, ◌≤◌, ◌↔◌, ◌∙◌, ℕ, zero, suc, List, [], ◌∷◌, Option, Some}
 use Rattle.std.proofs.Common.{None, refl, sym, ap, subst, arith}
 use Rattle.std.specs.Prelude.{slice_get}
 use Rattle.serde_json.specs.Data as json
@@ -10,6 +10,8 @@ use Rattle.export_reader.specs.FirstBroken.{Rule, container_rules, reference_rul
 use Rattle.export_reader.specs.FirstBroken.{version_rules, tree_rules, rules_of, export_rules}
 use Rattle.export_reader.specs.FirstBroken.{first_of, first_broken, Breaks}
 use Rattle.export_reader.specs.Rules.{version_in}
+use Rattle.export_templates.specs.Readings.{readings_of}
+use Rattle.export_templates.specs.declared.readings.TemplateReading.{TemplateReading}
 use Rattle.std.specs.Option.{option_map_or}
 
 some_same : {A : Type 0} {x y : A} → Some x ≡ Some y → x ≡ y
@@ -112,9 +114,10 @@ unbroken : (rules : List Rule) (first : Option (ℕ × List ℕ)) → first_of r
 unbroken rules None is none = refl
 unbroken rules (Some first) is none = absurd (none first.0 first.1 (found rules first.0 first.1 is))
 
-entries_rise : (written : WrittenEntries) → Rises 9 30 (entries_rules written)
+entries_rise : (readings : List TemplateReading) (written : WrittenEntries)
+    → Rises 9 30 (entries_rules readings written)
 unfolding entries_rules reference_rules container_rules
-entries_rise written = (
+entries_rise readings written = (
   omega arith,
   (
     omega arith,
@@ -131,7 +134,8 @@ entries_rise written = (
 version_rise : (version : Option json.Data) → Rises 7 30 (option_map_or version_rules version [])
 unfolding version_rules
 version_rise None = omega arith
-version_rise (Some version) = (omega arith, (omega arith, entries_rise (entries_of version)))
+version_rise (Some version) = let written = entries_of version in
+    (omega arith, (omega arith, entries_rise (readings_of written.templates) written))
 
 tree_rise : (tree : Option json.Data) → Rises 3 30 (option_map_or tree_rules tree [])
 unfolding tree_rules

@@ -8,18 +8,21 @@ use Rattle.export_model.specs.declared.container.Container.{Container}
 use Rattle.export_numbers.specs.Container.{container_of}
 use Rattle.export_reader.specs.Rules.{version_in}
 use Rattle.export_reader.specs.declared.loading.Loaded.{Loaded}
+use Rattle.export_templates.specs.Readings.{readings_of}
+use Rattle.export_templates.specs.declared.readings.TemplateReading.{TemplateReading}
 
 -- the container version of an export's bytes, where there is one
 abbrev pub version_of : List ℕ → Option json.Data
 version_of bytes = option_and_then version_in (json_of bytes)
 
--- what is loaded of entries
-abbrev pub loaded_of : WrittenEntries → Loaded
-loaded_of written = record { container = container_of written }
+-- what is loaded of entries whose templates have these readings
+abbrev pub loaded_of : List TemplateReading → WrittenEntries → Loaded
+loaded_of readings written = record { container = container_of readings written }
 
 -- what is loaded of a container version
 abbrev pub loaded_at : json.Data → Loaded
-loaded_at version = loaded_of (entries_of version)
+loaded_at version =
+    let written = entries_of version in loaded_of (readings_of written.templates) written
 
 -- the container of an export's bytes, where they have a container version
 abbrev pub container_in : List ℕ → Option Container

@@ -16,6 +16,8 @@ use Rattle.export_reader.specs.Rules.{unknown_trigger, unknown_sequence_tag, unk
 use Rattle.export_reader.specs.Rules.{variable_cycle, group_cycle, priority_text, not_built}
 use Rattle.export_reader.specs.declared.top.ExportEnd.{ExportEnd}
 use Rattle.export_reader.specs.declared.top.ExportEnd.TheVariants.{OutOfMemory, Refused}
+use Rattle.export_templates.specs.Readings.{readings_of}
+use Rattle.export_templates.specs.declared.readings.TemplateReading.{TemplateReading}
 
 -- a rule by its number, and the path at which it is first broken
 abbrev pub Rule : Type 0
@@ -31,22 +33,25 @@ container_rules written container =
     ∷ []
 
 -- the rules of what entries refer to
-unfoldable pub reference_rules : WrittenEntries → List Rule
-reference_rules written =
+unfoldable pub reference_rules : List TemplateReading → WrittenEntries → List Rule
+reference_rules readings written =
     (11, unknown_trigger written)
     ∷ (14, unknown_sequence_tag written)
     ∷ (15, unknown_template written)
-    ∷ container_rules written (container_of written)
+    ∷ container_rules written (container_of readings written)
 
--- the rules of entries
-unfoldable pub entries_rules : WrittenEntries → List Rule
-entries_rules written =
-    (9, duplicate_id written) ∷ (10, duplicate_name written) ∷ reference_rules written
+-- the rules of entries whose templates have these readings
+unfoldable pub entries_rules : List TemplateReading → WrittenEntries → List Rule
+entries_rules readings written =
+    (9, duplicate_id written) ∷ (10, duplicate_name written) ∷ reference_rules readings written
 
 -- the rules of a container version
 unfoldable pub version_rules : json.Data → List Rule
 version_rules version =
-    (7, not_web version) ∷ (8, field_kind version) ∷ entries_rules (entries_of version)
+    let written = entries_of version in
+    (7, not_web version)
+    ∷ (8, field_kind version)
+    ∷ entries_rules (readings_of written.templates) written
 
 -- the rules of an export's JSON tree
 unfoldable pub tree_rules : json.Data → List Rule

@@ -1,6 +1,7 @@
 ghost use Rattle.std.specs.Prelude.{◌≡◌, Some, None, IfOk, codes};
 ghost use Rattle.export_model.specs.Sound.{Sound};
 ghost use Rattle.export_numbers.specs.Container.{container_of};
+ghost use Rattle.export_numbers.specs.Templates.{AreRead};
 ghost use Rattle.export_reader.specs.Container.{loaded_of};
 ghost use Rattle.export_reader.specs.FirstBroken.{entries_rules, reference_rules, container_rules};
 ghost use Rattle.export_reader.specs.FirstBroken.{Judges};
@@ -15,13 +16,21 @@ use crate::top::ExportEnd;
 use export_entries::WrittenEntries;
 use export_numbers::container_of;
 use export_references::{priority_text, unknown_sequence_tag, unknown_template, unknown_trigger};
+use export_templates::TemplateReadings;
 use gtm_base::{OutOfMemory, Text};
 use std::alloc::Global;
 
-/// The container of entries, or the first of the rules from 9 on that they break.
+/// What is loaded of entries whose templates have these readings, or the first of the rules from 9
+/// on that they break.
 #[tactic(auto, unfolding(crate::specs::FirstBroken::entries_rules))]
-pub fn judge_entries(alloc: Global, written: &WrittenEntries) -> Result<Loaded, ExportEnd>
-    ensures judged { Judges result (entries_rules written.now) (Some (loaded_of written.now)) }
+pub fn judge_entries(
+    alloc: Global,
+    readings: &TemplateReadings,
+    written: &WrittenEntries,
+) -> Result<Loaded, ExportEnd>
+    requires { AreRead readings.now written.now.templates }
+    ensures judged { Judges result (entries_rules readings.now written.now)
+        (Some (loaded_of readings.now written.now)) }
     ensures sound { IfOk result (λ loaded. Sound loaded.container) }
 {
     if let Some(path) = duplicate_id(alloc, written)? {
@@ -30,13 +39,19 @@ pub fn judge_entries(alloc: Global, written: &WrittenEntries) -> Result<Loaded, 
     if let Some(path) = duplicate_name(alloc, written)? {
         return Err(ExportEnd::Refused { rule: 10, path });
     }
-    judge_references(alloc, written)
+    judge_references(alloc, readings, written)
 }
 
-// The container of entries, or the first of the rules from 11 on that they break.
+// What is loaded of entries, or the first of the rules from 11 on that they break.
 #[tactic(auto, unfolding(crate::specs::FirstBroken::reference_rules))]
-fn judge_references(alloc: Global, written: &WrittenEntries) -> Result<Loaded, ExportEnd>
-    ensures judged { Judges result (reference_rules written.now) (Some (loaded_of written.now)) }
+fn judge_references(
+    alloc: Global,
+    readings: &TemplateReadings,
+    written: &WrittenEntries,
+) -> Result<Loaded, ExportEnd>
+    requires { AreRead readings.now written.now.templates }
+    ensures judged { Judges result (reference_rules readings.now written.now)
+        (Some (loaded_of readings.now written.now)) }
     ensures sound { IfOk result (λ loaded. Sound loaded.container) }
 {
     if let Some(path) = trigger_path(alloc, written)? {
@@ -48,17 +63,23 @@ fn judge_references(alloc: Global, written: &WrittenEntries) -> Result<Loaded, E
     if let Some(path) = template_path(alloc, written)? {
         return Err(ExportEnd::Refused { rule: 15, path });
     }
-    judge_container(alloc, written)
+    judge_container(alloc, readings, written)
 }
 
-// The container of entries, or the first of the rules from 16 on that it breaks.
+// What is loaded of entries, or the first of the rules from 16 on that their container breaks.
 #[tactic(auto, unfolding(crate::specs::FirstBroken::container_rules))]
-fn judge_container(alloc: Global, written: &WrittenEntries) -> Result<Loaded, ExportEnd>
-    ensures judged { Judges result (container_rules written.now (container_of written.now))
-        (Some (loaded_of written.now)) }
+fn judge_container(
+    alloc: Global,
+    readings: &TemplateReadings,
+    written: &WrittenEntries,
+) -> Result<Loaded, ExportEnd>
+    requires { AreRead readings.now written.now.templates }
+    ensures judged { Judges result
+        (container_rules written.now (container_of readings.now written.now))
+        (Some (loaded_of readings.now written.now)) }
     ensures sound { IfOk result (λ loaded. Sound loaded.container) }
 {
-    let container = container_of(alloc, written)?;
+    let container = container_of(alloc, readings, written)?;
     if let Some(path) = variable_cycle(alloc, &container)? {
         return Err(ExportEnd::Refused { rule: 16, path });
     }

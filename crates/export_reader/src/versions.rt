@@ -12,6 +12,7 @@ use crate::loading::Loaded;
 use crate::top::ExportEnd;
 use export_entries::read_entries;
 use export_fields::{ReadEnd, key_before};
+use export_templates::read_templates;
 use gtm_base::{OutOfMemory, Text};
 use gtm_data::{DataEnd, check_json};
 use serde_json::Value;
@@ -81,7 +82,10 @@ fn judge_version(alloc: Global, version: &Value) -> Result<Loaded, ExportEnd>
         return Err(ExportEnd::Refused { rule: 7, path });
     }
     match read_entries(alloc, version) {
-        Ok(written) => judge_entries(alloc, &written),
+        Ok(written) => {
+            let readings = read_templates(alloc, &written.templates)?;
+            judge_entries(alloc, &readings, &written)
+        },
         Err(ReadEnd::OutOfMemory) => Err(ExportEnd::OutOfMemory),
         Err(ReadEnd::Broken { path }) => {
             let path = key_before(alloc, "containerVersion", &path)?;

@@ -2,6 +2,7 @@ use export_entries::read_entries;
 use export_model::Container;
 use export_numbers::container_of;
 use export_reader::{ExportEnd, read_export};
+use export_templates::read_templates;
 use gtm_base::{OutOfMemory, Text};
 use gtm_data::json_of;
 use std::alloc::Global;
@@ -29,7 +30,8 @@ pub fn container_in(alloc: Global, export: &[u8]) -> Result<Container, Fail> {
     let tree = json_of(alloc, export)?.ok_or("no JSON")?;
     let version = tree.get("containerVersion").ok_or("no version")?;
     let written = read_entries(alloc, version)?;
-    let container = container_of(alloc, &written)?;
+    let readings = read_templates(alloc, &written.templates)?;
+    let container = container_of(alloc, &readings, &written)?;
     Ok(container)
 }
 

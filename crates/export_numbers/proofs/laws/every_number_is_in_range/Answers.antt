@@ -2,4 +2,4 @@ use Rattle.export_numbers.proofs.EntriesInRange.{in_range}
 use Rattle.export_numbers.proofs.laws.every_number_is_in_range.Goals as goal
 
 pub returns : goal.returns
-returns c written = in_range written
+returns c readings written read = in_range readings written read

@@ -21,6 +21,6 @@ returns-clause-sound c =
                 c.in_ok-path-2.ensures.none;
           };
       fits =
-          built_fits c.args.written.now made c.in_ok-container.ensures.made
+          built_fits c.args.readings.now c.args.written.now made c.in_ok-container.ensures.made
           c.in_ok-container.ensures.in_range (sym c.in_default-4.is ∙ c.in_ok-path-4.ensures);
     }
