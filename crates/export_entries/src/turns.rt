@@ -176,7 +176,7 @@ pub struct WrittenTurn {
     pub setup: Option<WrittenSetup>,
     pub teardown: Option<WrittenTeardown>,
     pub paused: bool,
-    /// The first and the last millisecond of its schedule.
+    /// The first millisecond of its schedule, and the first one behind it.
     pub from_ms: Option<i64>,
     pub until_ms: Option<i64>,
     pub consent: Option<WrittenConsent>,

@@ -1,13 +1,10 @@
--- The names that parameters, tags, triggers and variables have in their texts.
+-- The names that parameters and variables have in their texts.
 use Rattle.std.specs.Prelude.{List, [], ◌++◌, Option, Some, None}
-use Rattle.std.specs.List.{flat_map, filter_map}
-use Rattle.export_model.specs.declared.conditions.Condition.{Condition}
+use Rattle.std.specs.List.{filter_map}
 use Rattle.export_model.specs.declared.params.NameRef.{NameRef}
 use Rattle.export_model.specs.declared.params.Param.{Param}
 use Rattle.export_model.specs.declared.params.Piece.{Piece}
 use Rattle.export_model.specs.declared.params.Piece.TheVariants.{Literal, Name}
-use Rattle.export_model.specs.declared.tags.Tag.{Tag}
-use Rattle.export_model.specs.declared.triggers.Trigger.{Trigger}
 use Rattle.export_model.specs.declared.variables.Format.{Format}
 use Rattle.export_model.specs.declared.variables.Variable.{Variable}
 use Rattle.export_model.specs.Params.{ValueTree, template, integer, bool, list, object, reference}
@@ -43,19 +40,6 @@ abbrev pub names_of_format : Format → List NameRef
 names_of_format format =
     names_of_option format.null ++ names_of_option format.undefined ++ names_of_option format.yes
     ++ names_of_option format.no
-
--- the names in a tag's parameters
-abbrev pub names_of_tag : Tag → List NameRef
-names_of_tag tag = names_in_all (params_of tag.params)
-
--- the names in the sides of a condition
-abbrev pub names_of_condition : Condition → List NameRef
-names_of_condition condition =
-    names_in (value_of condition.left.value) ++ names_in (value_of condition.right.value)
-
--- the names in a trigger's conditions
-abbrev pub names_of_trigger : Trigger → List NameRef
-names_of_trigger trigger = flat_map names_of_condition trigger.conditions
 
 -- the names in a variable's parameters and format
 abbrev pub names_of_variable : Variable → List NameRef

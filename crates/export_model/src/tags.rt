@@ -43,7 +43,7 @@ pub struct Tag {
     pub setup: Option<Sequence>,
     pub teardown: Option<Sequence>,
     pub paused: bool,
-    /// The first and the last millisecond of its schedule.
+    /// The first millisecond of its schedule, and the first one behind it.
     pub from_ms: Option<i64>,
     pub until_ms: Option<i64>,
     /// The types of consent that it needs.

@@ -1,14 +1,11 @@
 -- What each entry of a container names is there.
-use Rattle.std.proofs.Common.{◌≡◌, ◌<◌, ◌^◌, ℕ, List, [], ◌∷◌, length, map, Bool, true, false, sym}
-use Rattle.std.proofs.Common.{subst}
-use Rattle.std.specs.Prelude.{Result, Ok, Err, IfOk, Option, Some, None, IfSome, All, option_map}
+use Rattle.std.proofs.Common.{ℕ, List, [], ◌∷◌, length, map, Bool, true, false, sym, subst}
+use Rattle.std.specs.Prelude.{Option, Some, None, IfSome, All, option_map}
 use Rattle.std.specs.Prelude.{unwrap_or, if◌then◌else◌, codes}
-use Rattle.std.specs.List.{flat_map, AllByRecursion}
+use Rattle.std.specs.List.{AllByRecursion}
 use Rattle.std.specs.Option.{option_map_or}
 use Rattle.std.specs.Str.{bytes_eq}
-use Rattle.std.proofs.lemmas.List.{length-map}
-use Rattle.std.proofs.lemmas.List.Elements.{All-nil, All-cons, All-head, All-tail, All-append}
-use Rattle.std.proofs.lemmas.List.Elements.{All-weaker}
+use Rattle.std.proofs.lemmas.List.Elements.{All-nil, All-cons, All-append, All-weaker}
 use Rattle.text_places.specs.Places.{place_of}
 use Rattle.export_fields.specs.Words.{among}
 use Rattle.export_fields.specs.declared.params.WrittenParam.{WrittenParam}
@@ -20,13 +17,10 @@ use Rattle.export_entries.specs.declared.triggers.WrittenTrigger.{WrittenTrigger
 use Rattle.export_entries.specs.declared.turns.WrittenSetup.{WrittenSetup}
 use Rattle.export_entries.specs.declared.turns.WrittenTeardown.{WrittenTeardown}
 use Rattle.export_entries.specs.declared.variables.WrittenVariable.{WrittenVariable}
-use Rattle.export_model.specs.Names.{names_in, names_in_all, names_of_option, names_of_format}
-use Rattle.export_model.specs.Names.{names_of_condition}
-use Rattle.export_model.specs.Params.{value_of, params_of}
-use Rattle.export_model.specs.Sound.{IsNameIn, IsTriggerIn, IsSequenceIn, IsTagKindIn}
+use Rattle.export_model.specs.Sound.{IsNameIn, IsParamIn, IsConditionIn, IsFormatIn, IsTriggerIn}
+use Rattle.export_model.specs.Sound.{IsSequenceIn, IsTagKindIn}
 use Rattle.export_model.specs.Sound.{IsVariableKindIn, IsTagIn, IsTriggerEntryIn, IsVariableIn}
-use Rattle.export_model.specs.Sound.{InRange, HasSmallLists}
-use Rattle.export_model.specs.declared.conditions.Condition.{Condition}
+use Rattle.export_model.specs.Sound.{InRange}
 use Rattle.export_model.specs.declared.container.Container.{Container}
 use Rattle.export_model.specs.declared.params.NameRef.{NameRef}
 use Rattle.export_model.specs.declared.params.NameRef.TheVariants.{Variable, BuiltIn, EventName}
@@ -34,11 +28,11 @@ use Rattle.export_model.specs.declared.params.NameRef.TheVariants.{Nothing}
 use Rattle.export_model.specs.declared.tags.TagKind.TheVariants as tag_kind
 use Rattle.export_model.specs.declared.triggers.TriggerRef.TheVariants.{Own, Never}
 use Rattle.export_model.specs.declared.variables.VariableKind.TheVariants as variable_kind
-use Rattle.export_params.proofs.LookUps.{no_name_in_empty, looked_up, all_names}
+use Rattle.export_params.proofs.LookUps.{no_name_in_empty, looked_up}
 use Rattle.export_params.specs.LookedUp.{IsLookedUp}
 use Rattle.export_params.specs.Names.{name_ref}
 use Rattle.export_params.specs.Params as turned
-use Rattle.export_names.specs.Lists.{Lists, lists_of, HasFewEntries}
+use Rattle.export_names.specs.Lists.{Lists, lists_of}
 use Rattle.export_names.specs.Members.{member_ids}
 use Rattle.export_names.specs.TriggerRefs.{built_in_triggers, built_in_trigger, trigger_ref}
 use Rattle.export_names.specs.Types.{template_at}
@@ -76,13 +70,6 @@ all_made : {A B : Type 0} (P : B → Type 0) (made : A → B) → ((a : A) → P
 all_made P made each [] = All-nil P
 all_made P made each (a ∷ items) =
     All-cons P (made a) (map made items) (each a) (all_made P made each items)
-
-all_inside : {A B : Type 0} (P : B → Type 0) (inside : A → List B) (items : List A)
-    → All (λ a. All P (inside a)) items → All P (flat_map inside items)
-all_inside P inside [] all = All-nil P
-all_inside P inside (a ∷ items) all =
-    All-append P (inside a) (flat_map inside items) (All-head (λ x. All P (inside x)) a items all)
-    (all_inside P inside items (All-tail (λ x. All P (inside x)) a items all))
 
 module _ (readings : List TemplateReading) (written : WrittenEntries)
     (read : AreRead readings written.templates) where
@@ -145,17 +132,14 @@ module _ (readings : List TemplateReading) (written : WrittenEntries)
   looked_up_in : (found : NameRef) → IsLookedUp lists.names found → IsNameIn made found
   looked_up_in found is = subst (IsNameIn made) (sym is.is) (name_in is.word)
 
-  names_in_param : (param : WrittenParam)
-      → All (IsNameIn made) (names_in (value_of (turned.param_of lists.names param).value))
-  names_in_param param =
+  param_in : (param : WrittenParam) → IsParamIn made (turned.param_of lists.names param)
+  param_in param =
       All-weaker (IsLookedUp lists.names) (IsNameIn made) looked_up_in _
       (looked_up lists.names param)
 
-  names_in_params : (params : List WrittenParam)
-      → All (IsNameIn made) (names_in_all (params_of (turned.params_of lists.names params)))
-  names_in_params params =
-      All-weaker (IsLookedUp lists.names) (IsNameIn made) looked_up_in _
-      (all_names lists.names params)
+  params_in : (params : List WrittenParam)
+      → All (IsParamIn made) (turned.params_of lists.names params)
+  params_in params = all_made (IsParamIn made) (turned.param_of lists.names) param_in params
 
   -- the numbers of triggers
   by_trigger : (id : List ℕ) (place : Option ℕ) → Within (length made.triggers) place
@@ -194,7 +178,7 @@ module _ (readings : List TemplateReading) (written : WrittenEntries)
   tag_in : (tag : WrittenTag) → IsTagIn made (tags.tag_of lists tag)
   tag_in tag = record {
     kind = tag_kind_by tag.kind (template_at lists.types tag.kind) (template_within tag.kind);
-    names = names_in_params tag.params;
+    params = params_in tag.params;
     firing = all_made (IsTriggerIn made) (trigger_ref lists.triggers) trigger_in tag.firing;
     blocking = all_made (IsTriggerIn made) (trigger_ref lists.triggers) trigger_in tag.blocking;
     setup = setup_in tag.turn.setup;
@@ -202,35 +186,31 @@ module _ (readings : List TemplateReading) (written : WrittenEntries)
   }
 
   -- triggers
-  names_in_side : (key : List ℕ) (found : Option WrittenParam)
-      → All (IsNameIn made)
-      (names_in (value_of
-      (option_map_or (turned.param_of lists.names) found (empty_param key)).value))
-  names_in_side key None =
+  side_in : (key : List ℕ) (found : Option WrittenParam)
+      → IsParamIn made (option_map_or (turned.param_of lists.names) found (empty_param key))
+  side_in key None =
       subst (All (IsNameIn made)) (sym no_name_in_empty) (All-nil (IsNameIn made))
-  names_in_side key (Some param) = names_in_param param
+  side_in key (Some param) = param_in param
 
   condition_in : (condition : WrittenCondition)
-      → All (IsNameIn made) (names_of_condition (condition_of lists.names condition))
-  condition_in condition =
-      All-append (IsNameIn made) _ _
-      (names_in_side (codes "arg0") (first_with (codes "arg0") condition.params))
-      (names_in_side (codes "arg1") (first_with (codes "arg1") condition.params))
+      → IsConditionIn made (condition_of lists.names condition)
+  condition_in condition = record {
+    left = side_in (codes "arg0") (first_with (codes "arg0") condition.params);
+    right = side_in (codes "arg1") (first_with (codes "arg1") condition.params);
+  }
 
   conditions_in : (trigger : WrittenTrigger)
-      → All (λ c. All (IsNameIn made) (names_of_condition c)) (conditions_of lists.names trigger)
+      → All (IsConditionIn made) (conditions_of lists.names trigger)
   conditions_in trigger =
-      let P : Condition → Type 0 = λ c. All (IsNameIn made) (names_of_condition c) in
-      All-append P _ _
-      (All-append P _ _ (all_made P (condition_of lists.names) condition_in trigger.custom)
-      (all_made P (condition_of lists.names) condition_in trigger.filter))
-      (all_made P (condition_of lists.names) condition_in trigger.auto)
+      All-append (IsConditionIn made) _ _
+      (All-append (IsConditionIn made) _ _
+      (all_made (IsConditionIn made) (condition_of lists.names) condition_in trigger.custom)
+      (all_made (IsConditionIn made) (condition_of lists.names) condition_in trigger.filter))
+      (all_made (IsConditionIn made) (condition_of lists.names) condition_in trigger.auto)
 
   trigger_entry_in : (trigger : WrittenTrigger) → IsTriggerEntryIn made (trigger_of lists trigger)
   trigger_entry_in trigger = record {
-    names =
-        all_inside (IsNameIn made) names_of_condition (conditions_of lists.names trigger)
-        (conditions_in trigger);
+    conditions = conditions_in trigger;
     members =
         all_made (IsTriggerIn made) (trigger_ref lists.triggers) trigger_in (member_ids trigger);
   }
@@ -251,27 +231,26 @@ module _ (readings : List TemplateReading) (written : WrittenEntries)
       (custom_kind_by kind (template_at lists.types kind) (template_within kind))
 
   option_in : (param : Option WrittenParam)
-      → All (IsNameIn made) (names_of_option (option_map (turned.param_of lists.names) param))
-  option_in None = All-nil (IsNameIn made)
-  option_in (Some param) = names_in_param param
+      → IfSome (option_map (turned.param_of lists.names) param) (IsParamIn made)
+  option_in None = tt
+  option_in (Some param) = param_in param
 
   format_in : (format : Option WrittenFormat)
-      → All (IsNameIn made) (names_of_format (variables.format_of lists.names format))
-  format_in None = All-nil (IsNameIn made)
-  format_in (Some format) =
-      All-append (IsNameIn made) _ _
-      (All-append (IsNameIn made) _ _
-      (All-append (IsNameIn made) _ _ (option_in format.null) (option_in format.undefined))
-      (option_in format.yes))
-      (option_in format.no)
+      → IsFormatIn made (variables.format_of lists.names format)
+  format_in None = record { null = tt; undefined = tt; yes = tt; no = tt }
+  format_in (Some format) = record {
+    null = option_in format.null;
+    undefined = option_in format.undefined;
+    yes = option_in format.yes;
+    no = option_in format.no;
+  }
 
   variable_in : (variable : WrittenVariable)
       → IsVariableIn made (variables.variable_of lists variable)
   variable_in variable = record {
     kind = variable_kind_in variable.kind;
-    names =
-        All-append (IsNameIn made) _ _ (names_in_params variable.params)
-        (format_in variable.format);
+    params = params_in variable.params;
+    format = format_in variable.format;
   }
 
   -- every number of the container is in range
@@ -283,32 +262,3 @@ module _ (readings : List TemplateReading) (written : WrittenEntries)
     variables =
         all_made (IsVariableIn made) (variables.variable_of lists) variable_in written.variables;
   }
-
--- so is every number of what is made of entries
-pub made_in_range : (readings : List TemplateReading) (written : WrittenEntries)
-    → AreRead readings written.templates → {E : Type 0} (result : Result Container E)
-    → IfOk result (λ made. made ≡ container_of readings written) → IfOk result InRange
-made_in_range readings written read (Ok container) is =
-    subst InRange (sym is) (in_range readings written read)
-made_in_range readings written read (Err end) is = tt
-
--- with few entries of each kind, the lists of what is made of them are short
-pub made_small : (readings : List TemplateReading) (written : WrittenEntries)
-    → AreRead readings written.templates → HasFewEntries written → {E : Type 0}
-    (result : Result Container E) → IfOk result (λ made. made ≡ container_of readings written)
-    → IfOk result HasSmallLists
-made_small readings written read few (Ok container) is =
-    subst HasSmallLists (sym is) (record {
-      tags = of_length _ written.tags few.tags;
-      triggers = of_length _ written.triggers few.triggers;
-      variables = of_length _ written.variables few.variables;
-      built_ins = of_length _ written.built_ins few.built_ins;
-      templates =
-          subst (λ n. n < 2 ^ 32) (zipped_length (λ t. t) _ readings written.templates read)
-          (of_length _ written.templates few.templates);
-    })
-  where
-    of_length : {A B : Type 0} (f : A → B) (items : List A) → length items < 2 ^ 32
-        → length (map f items) < 2 ^ 32
-    of_length f items lower = rw (length-map items f) lower
-made_small readings written read few (Err end) is = tt

@@ -1,5 +1,6 @@
 ghost use Rattle.std.specs.Prelude.{◌≡◌, ◌↔◌, ◌<◌, ◌^◌, map, IsTrue, IfOk};
-ghost use Rattle.export_model.specs.Sound.{HasSmallLists, InRange};
+ghost use Rattle.export_model.specs.Small.{HasSmallLists};
+ghost use Rattle.export_model.specs.Sound.{InRange};
 ghost use Rattle.export_names.specs.Types.{own_type, gallery_type};
 ghost use Rattle.export_numbers.specs.Container.{public_id_of, container_by, container_of};
 ghost use Rattle.export_numbers.specs.Templates.{AreRead};
@@ -12,7 +13,7 @@ use crate::templates::templates_of;
 use crate::triggers::triggers_of;
 use crate::variables::variables_of;
 use export_entries::{WrittenContainer, WrittenEntries};
-use export_model::Container;
+use export_model::{Container, has_small_lists};
 use export_names::{Known, TypeTexts, known_of, name_refs, type_texts};
 use export_templates::TemplateReadings;
 use gtm_base::{OutOfMemory, Text};
@@ -21,8 +22,8 @@ use std::alloc::Global;
 /// The container that the entries of an export stand for, in which each name is a number. A name
 /// that nothing has stands for nothing. Of a template it has what its reading says.
 ///
-/// Fails where memory is wanting, and where a list has 2^32 entries or more: no memory holds so
-/// many.
+/// Fails where memory is wanting, and where a list of it or within an entry has 2^32 items or more:
+/// no export of at most 8 MiB has so many.
 pub fn container_of(
     alloc: Global,
     readings: &TemplateReadings,
@@ -37,7 +38,11 @@ pub fn container_of(
         return Err(OutOfMemory);
     }
     let types = type_texts(alloc, &written.templates)?;
-    container_with(alloc, &types, readings, written)
+    let container = container_with(alloc, &types, readings, written)?;
+    if !has_small_lists(&container) {
+        return Err(OutOfMemory);
+    }
+    Ok(container)
 }
 
 // The container of entries whose templates have these types.

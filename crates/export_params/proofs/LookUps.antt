@@ -18,7 +18,7 @@ use Rattle.export_model.specs.declared.params.ParamValue.TheOpen.{ParamValue-F}
 use Rattle.export_model.specs.Names.{name_in, names_in, names_in_all}
 use Rattle.export_model.specs.declared.params.ParamValue.TheFolds.{map-ParamValue}
 use Rattle.export_model.specs.Params.{ValueTree, template, integer, bool, list, object, reference}
-use Rattle.export_model.specs.Params.{param_trees, value_step, param_step, value_of, params_of}
+use Rattle.export_model.specs.Params.{param_trees, value_step, param_step, value_of}
 use Rattle.export_params.specs.Cut.{WrittenPiece, literal, name, cut}
 use Rattle.export_params.specs.LookedUp.{IsLookedUp}
 use Rattle.export_params.specs.Names.{NameLists, name_ref, numbered, pieces_of}
@@ -144,11 +144,3 @@ module _ (names : NameLists) where
       (map-WrittenParam WrittenParam Param (turned.param_of names) z)).value) e
       (value_looked_up (λ s. s.0) (λ s. s.1) y.kind y.value y.list y.map)))
       written
-
-  -- each name in parameters is what a word stands for
-  pub all_names : (params : List WrittenParam)
-      → All (IsLookedUp names) (names_in_all (params_of (turned.params_of names params)))
-  unfolding names_in_all
-  all_names [] = All-nil (IsLookedUp names)
-  all_names (param ∷ params) =
-      All-append (IsLookedUp names) _ _ (looked_up param) (all_names params)

@@ -3,3 +3,4 @@ pub mod Leading
 pub mod Levelling
 pub mod Marking
 pub mod Searching
+pub mod ShortChains

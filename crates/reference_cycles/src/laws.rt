@@ -1,6 +1,6 @@
-ghost use Rattle.std.specs.Prelude.{◌≡◌, ◌↔◌, ℕ, List, Some, None};
+ghost use Rattle.std.specs.Prelude.{◌≡◌, ◌↔◌, ◌<◌, ℕ, List, Some, None, length};
 ghost use Rattle.reference_cycles.specs.Closure.{first_cycle};
-ghost use Rattle.reference_cycles.specs.Graph.{Refers, Leads, HasNoCycle, IsFirstOnCycle};
+ghost use Rattle.reference_cycles.specs.Graph.{Refers, Chain, Leads, HasNoCycle, IsFirstOnCycle};
 
 /// A law, with nothing to call: a place leads to those that it refers to, so one that refers to
 /// itself leads back to itself; and where it leads to a place, it leads to all that this one leads
@@ -18,4 +18,11 @@ pub fn the_closure_has_the_first_cycle()
     ensures first { (graph : List (List ℕ)) (place : ℕ) → (first_cycle graph ≡ Some place)
         ↔ IsFirstOnCycle graph place }
     ensures none { (graph : List (List ℕ)) → (first_cycle graph ≡ None) ↔ HasNoCycle graph }
+{}
+
+/// A law, with nothing to call: where no place of a graph leads back to itself, a chain of
+/// references to a place of the graph has fewer references than the graph has places.
+pub fn chains_are_shorter_than_the_graph()
+    ensures { (graph : List (List ℕ)) (steps from to : ℕ) → HasNoCycle graph
+        → Chain graph steps from to → to < length graph → steps < length graph }
 {}

@@ -1,0 +1,3 @@
+pub mod Counts
+pub mod FirstKeys
+pub mod ValueTrees
