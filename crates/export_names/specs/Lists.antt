@@ -1,7 +1,7 @@
 -- The lists by which names become numbers.
 use Rattle.std.specs.Prelude.{◌<◌, ◌^◌, ℕ, List, length, map}
 use Rattle.export_entries.specs.declared.entries.WrittenEntries.{WrittenEntries}
-use Rattle.export_params.specs.Names.{NameLists, AreFew}
+use Rattle.export_params.specs.Names.{NameLists}
 use Rattle.export_names.specs.Types.{TypeLists, types_of}
 
 -- the names of variables, the types that templates have, the numbers of triggers and the names of
@@ -26,14 +26,6 @@ lists_of written = record {
   triggers = map (λ trigger. trigger.id) written.triggers;
   tags = map (λ tag. tag.name) written.tags;
 }
-
--- few enough that each place has a number of 32 bits
-pub record HasFewNames (lists : Lists) : Type 0 where
-  pub names : AreFew lists.names
-  pub own : length lists.types.own < 2 ^ 32
-  pub gallery : length lists.types.gallery < 2 ^ 32
-  pub triggers : length lists.triggers < 2 ^ 32
-  pub tags : length lists.tags < 2 ^ 32
 
 -- few enough entries of each kind that each place has a number of 32 bits
 pub record HasFewEntries (written : WrittenEntries) : Type 0 where

@@ -1,11 +1,12 @@
 -- The types that use custom templates.
-use Rattle.std.specs.Prelude.{ℕ, List, [], ◌∷◌, ◌++◌, Option, option_and_then, codes, map, suc}
+use Rattle.std.specs.Prelude.{◌≡◌, ℕ, List, [], ◌∷◌, ◌++◌, Option, option_and_then, codes, map, suc}
 use Rattle.std.specs.Prelude.{Some, None, option_map, if◌then◌else◌}
 use Rattle.std.specs.List.{list_any}
 use Rattle.std.specs.Str.{bytes_eq}
 use Rattle.std.specs.Option.{option_map_or}
 use Rattle.text_places.specs.Places.{place_of, lower_place}
 use Rattle.export_entries.specs.declared.templates.WrittenTemplate.{WrittenTemplate}
+use Rattle.export_names.specs.declared.types.TypeTexts.{TypeTexts}
 
 -- the type by the container and the template's id there: `cvt_<container>_<id>`
 abbrev pub own_type : WrittenTemplate → List ℕ
@@ -41,6 +42,11 @@ template_at types kind = lower_place (place_of kind types.own) (place_of kind ty
 -- the types that use these templates
 abbrev pub types_of : List WrittenTemplate → TypeLists
 types_of templates = record { own = map own_type templates; gallery = map gallery_type templates }
+
+-- these texts are the types that templates have
+pub record HasTypesOf (templates : List WrittenTemplate) (texts : TypeTexts) : Type 0 where
+  pub own : texts.own ≡ map own_type templates
+  pub gallery : texts.gallery ≡ map gallery_type templates
 
 -- the place of the first template that has a type among its names
 abbrev pub first_using : List ℕ → List WrittenTemplate → Option ℕ

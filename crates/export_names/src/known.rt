@@ -1,8 +1,11 @@
-ghost use Rattle.std.specs.Prelude.{◌≡◌, IfOk};
+ghost use Rattle.std.specs.Prelude.{◌≡◌, ◌↔◌, ◌<◌, ◌^◌, IsTrue, IfOk};
+ghost use Rattle.export_names.specs.Lists.{lists_of, HasFewEntries};
+ghost use Rattle.export_names.specs.Types.{HasTypesOf};
 
-use crate::borrowed::NameRefs;
-use crate::numbers::Numbers;
-use crate::types::TemplateTypes;
+use crate::names::{ById, ByName, texts_of};
+use crate::numbers::{Numbers, numbers_of};
+use crate::types::{TemplateTypes, TypeTexts};
+use export_entries::{WrittenBuiltIn, WrittenEntries, WrittenTag, WrittenTrigger, WrittenVariable};
 use export_params::Names;
 use gtm_base::OutOfMemory;
 use std::alloc::Global;
@@ -36,18 +39,50 @@ impl<'a> Model for Known<'a> {
         } };
 }
 
-/// The lists by which these names become numbers. Fails where memory is wanting.
-pub fn known_of<'a>(alloc: Global, refs: &'a NameRefs) -> Result<Known<'a>, OutOfMemory>
-    ensures { IfOk result (λ made. made ≡ refs.now) }
+/// The lists by which the names of entries become numbers, where these are the types that their
+/// templates have. Each is collected once.
+///
+/// Fails where memory is wanting, and where a list has 2^32 entries or more: no export of at most 8
+/// MiB has so many.
+pub fn known_of<'a>(
+    alloc: Global,
+    types: &'a TypeTexts,
+    written: &'a WrittenEntries,
+) -> Result<Known<'a>, OutOfMemory>
+    requires { HasTypesOf written.now.templates types.now }
+    ensures { IfOk result (λ made. made ≡ lists_of written.now) }
 {
-    let names = Names::of(alloc, &refs.variables, &refs.built_ins)?;
-    let types = TemplateTypes::of(alloc, &refs.own_types, &refs.gallery_types)?;
-    let triggers = Numbers::of(alloc, &refs.triggers)?;
-    let tags = Numbers::of(alloc, &refs.tags)?;
+    if !has_few_entries(written) {
+        return Err(OutOfMemory);
+    }
+    let variables = texts_of::<ByName, WrittenVariable>(alloc, written.variables.as_slice())?;
+    let built_ins = texts_of::<ByName, WrittenBuiltIn>(alloc, written.built_ins.as_slice())?;
+    let names = Names::of(alloc, variables, built_ins)?;
+    let types = TemplateTypes::of(alloc, types)?;
+    let triggers = numbers_of::<ById, WrittenTrigger>(alloc, &written.triggers)?;
+    let tags = numbers_of::<ByName, WrittenTag>(alloc, &written.tags)?;
     Ok(Known {
         names,
         types,
         triggers,
         tags,
     })
+}
+
+// Whether each list is short enough that each place has a number of 32 bits.
+fn has_few_entries(written: &WrittenEntries) -> bool
+    ensures { IsTrue result ↔ HasFewEntries written.now }
+{
+    is_few(written.tags.len())
+        && is_few(written.triggers.len())
+        && is_few(written.variables.len())
+        && is_few(written.built_ins.len())
+        && is_few(written.templates.len())
+}
+
+// Whether a number of entries is below 2^32.
+fn is_few(count: usize) -> bool
+    ensures { IsTrue result ↔ (count < 2 ^ 32) }
+{
+    count < 4_294_967_296
 }

@@ -7,7 +7,6 @@
 //! a group. Otherwise only memory can be wanting.
 #![tactic(auto)]
 
-mod borrowed;
 mod known;
 mod laws;
 mod members;
@@ -17,15 +16,11 @@ mod trigger_numbers;
 mod types;
 mod values;
 
-pub use borrowed::{NameRefs, TypeTexts, name_refs, type_texts};
 pub use known::{Known, known_of};
 pub use laws::a_type_finds_the_first_template;
 pub use members::{is_group, is_member_list, member_params};
-pub use names::{
-    built_in_names, refs, tag_ids, tag_names, template_ids, trigger_ids, variable_ids,
-    variable_names,
-};
+pub use names::{ById, ByName, FoundBy, texts_of};
 pub use numbers::Numbers;
 pub use trigger_numbers::{is_never, param_refs, trigger_ref, trigger_refs};
-pub use types::{TemplateTypes, names_of};
+pub use types::{TemplateTypes, TypeTexts, names_of, type_texts};
 pub use values::{first_with, text_of, values_of};

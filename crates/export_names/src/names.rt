@@ -1,107 +1,97 @@
-ghost use Rattle.std.specs.Prelude.{◌≡◌, map, IfOk};
+ghost use Rattle.std.specs.Prelude.{◌≡◌, map, IfOk, ℕ, List};
 
 use export_entries::{
-    WrittenBuiltIns, WrittenTags, WrittenTemplates, WrittenTriggers, WrittenVariables,
+    WrittenBuiltIn, WrittenTag, WrittenTemplate, WrittenTrigger, WrittenVariable,
 };
-use gtm_base::{OutOfMemory, Text, Texts};
+use gtm_base::{OutOfMemory, Text};
 use std::alloc::Global;
 
-/// The names of tags, in order. Fails where memory is wanting.
-pub fn tag_names(alloc: Global, tags: &WrittenTags) -> Result<Vec<&Text>, OutOfMemory>
-    ensures { IfOk result
-        (λ made. map (λ text. text.now) made.items ≡ map (λ tag. tag.name) tags.now) }
+/// Entries are found by their ids.
+pub struct ById;
+
+/// Entries are found by their names.
+pub struct ByName;
+
+/// An entry that has a text by which it is found.
+pub trait FoundBy<By> {
+    ghost text: { Self → List ℕ };
+
+    /// The text by which it is found.
+    fn text(&self) -> &Text
+        ensures { result.now ≡ text self.now };
+}
+
+/// The texts by which entries are found, in order. Fails where memory is wanting.
+pub fn texts_of<By, T: FoundBy<By>>(alloc: Global, entries: &[T]) -> Result<Vec<&Text>, OutOfMemory>
+    ensures { IfOk result (λ made. map (λ text. text.now) made.items ≡ map T.text entries.now) }
 {
     let mut made = Vec::new(alloc);
-    for tag in tags.as_slice() {
-        made.push(&tag.name)?;
+    for entry in entries {
+        made.push(entry.text())?;
     }
     Ok(made)
 }
 
-/// The numbers of triggers, in order. Fails where memory is wanting.
-pub fn trigger_ids(alloc: Global, triggers: &WrittenTriggers) -> Result<Vec<&Text>, OutOfMemory>
-    ensures { IfOk result
-        (λ made. map (λ text. text.now) made.items ≡ map (λ trigger. trigger.id) triggers.now) }
-{
-    let mut made = Vec::new(alloc);
-    for trigger in triggers.as_slice() {
-        made.push(&trigger.id)?;
+impl FoundBy<ById> for WrittenTag {
+    ghost text = { λ tag. tag.id };
+
+    fn text(&self) -> &Text {
+        &self.id
     }
-    Ok(made)
 }
 
-/// The names of variables, in order. Fails where memory is wanting.
-pub fn variable_names(
-    alloc: Global,
-    variables: &WrittenVariables,
-) -> Result<Vec<&Text>, OutOfMemory>
-    ensures { IfOk result
-        (λ made. map (λ text. text.now) made.items
-        ≡ map (λ variable. variable.name) variables.now) }
-{
-    let mut made = Vec::new(alloc);
-    for variable in variables.as_slice() {
-        made.push(&variable.name)?;
+impl FoundBy<ByName> for WrittenTag {
+    ghost text = { λ tag. tag.name };
+
+    fn text(&self) -> &Text {
+        &self.name
     }
-    Ok(made)
 }
 
-/// The names of built-in variables, in order. Fails where memory is wanting.
-pub fn built_in_names(alloc: Global, built_ins: &WrittenBuiltIns) -> Result<Vec<&Text>, OutOfMemory>
-    ensures { IfOk result
-        (λ made. map (λ text. text.now) made.items
-        ≡ map (λ built_in. built_in.name) built_ins.now) }
-{
-    let mut made = Vec::new(alloc);
-    for built_in in built_ins.as_slice() {
-        made.push(&built_in.name)?;
+impl FoundBy<ById> for WrittenTrigger {
+    ghost text = { λ trigger. trigger.id };
+
+    fn text(&self) -> &Text {
+        &self.id
     }
-    Ok(made)
 }
 
-/// The ids of tags, in order. Fails where memory is wanting.
-pub fn tag_ids(alloc: Global, tags: &WrittenTags) -> Result<Vec<&Text>, OutOfMemory>
-    ensures { IfOk result
-        (λ made. map (λ text. text.now) made.items ≡ map (λ tag. tag.id) tags.now) }
-{
-    let mut made = Vec::new(alloc);
-    for tag in tags.as_slice() {
-        made.push(&tag.id)?;
+impl FoundBy<ById> for WrittenVariable {
+    ghost text = { λ variable. variable.id };
+
+    fn text(&self) -> &Text {
+        &self.id
     }
-    Ok(made)
 }
 
-/// The ids of variables, in order. Fails where memory is wanting.
-pub fn variable_ids(alloc: Global, variables: &WrittenVariables) -> Result<Vec<&Text>, OutOfMemory>
-    ensures { IfOk result
-        (λ made. map (λ text. text.now) made.items ≡ map (λ variable. variable.id) variables.now) }
-{
-    let mut made = Vec::new(alloc);
-    for variable in variables.as_slice() {
-        made.push(&variable.id)?;
+impl FoundBy<ByName> for WrittenVariable {
+    ghost text = { λ variable. variable.name };
+
+    fn text(&self) -> &Text {
+        &self.name
     }
-    Ok(made)
 }
 
-/// The ids of templates, in order. Fails where memory is wanting.
-pub fn template_ids(alloc: Global, templates: &WrittenTemplates) -> Result<Vec<&Text>, OutOfMemory>
-    ensures { IfOk result
-        (λ made. map (λ text. text.now) made.items ≡ map (λ template. template.id) templates.now) }
-{
-    let mut made = Vec::new(alloc);
-    for template in templates.as_slice() {
-        made.push(&template.id)?;
+impl FoundBy<ByName> for WrittenBuiltIn {
+    ghost text = { λ built_in. built_in.name };
+
+    fn text(&self) -> &Text {
+        &self.name
     }
-    Ok(made)
 }
 
-/// References to the texts of a list, in order. Fails where memory is wanting.
-pub fn refs(alloc: Global, texts: &Texts) -> Result<Vec<&Text>, OutOfMemory>
-    ensures { IfOk result (λ made. map (λ text. text.now) made.items ≡ texts.now) }
-{
-    let mut made = Vec::new(alloc);
-    for text in texts.as_slice() {
-        made.push(text)?;
+impl FoundBy<ById> for WrittenTemplate {
+    ghost text = { λ template. template.id };
+
+    fn text(&self) -> &Text {
+        &self.id
     }
-    Ok(made)
+}
+
+impl FoundBy<ByName> for Text {
+    ghost text = { λ text. text };
+
+    fn text(&self) -> &Text {
+        self
+    }
 }

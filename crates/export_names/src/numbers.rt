@@ -1,7 +1,8 @@
 ghost use Rattle.std.specs.Prelude.{◌≡◌, ◌<◌, ◌^◌, IfOk, length, map};
 ghost use Rattle.text_places.specs.Places.{place_of};
 
-use gtm_base::{OutOfMemory, Text};
+use crate::names::{FoundBy, texts_of};
+use gtm_base::{ListOf, OutOfMemory, Text};
 use std::alloc::Global;
 use std::marker::Model;
 use text_places::Places;
@@ -24,9 +25,9 @@ impl<'a> Model for Numbers<'a> {
 
 impl<'a> Numbers<'a> {
     /// The numbers of these texts. Fails where memory is wanting.
-    pub fn of(alloc: Global, texts: &'a [&'a Text]) -> Result<Numbers<'a>, OutOfMemory>
-        requires { length texts.now < 2 ^ 32 }
-        ensures { IfOk result (λ made. made ≡ map (λ t. t.now) texts.now) }
+    pub fn of(alloc: Global, texts: Vec<&'a Text>) -> Result<Numbers<'a>, OutOfMemory>
+        requires { length texts.items < 2 ^ 32 }
+        ensures { IfOk result (λ made. made ≡ map (λ t. t.now) texts.entry.items) }
     {
         let places = Places::of(alloc, texts)?;
         Ok(Numbers { places })
@@ -38,4 +39,17 @@ impl<'a> Numbers<'a> {
     {
         self.places.place(text.as_str()).map(|at| at as u32)
     }
+}
+
+/// The numbers of entries by the texts that these are found by. Fails where memory is wanting.
+pub fn numbers_of<'a, By, T: FoundBy<By>>(
+    alloc: Global,
+    entries: &'a ListOf<T>,
+) -> Result<Numbers<'a>, OutOfMemory>
+    requires { length entries.now < 2 ^ 32 }
+    ensures { IfOk result (λ made. made ≡ map T.text entries.now) }
+{
+    let texts = texts_of::<By, T>(alloc, entries.as_slice())?;
+    let numbers = Numbers::of(alloc, texts)?;
+    Ok(numbers)
 }

@@ -1,8 +1,9 @@
 ghost use Rattle.std.specs.Prelude.{◌≡◌, ◌<◌, ◌^◌, length, map, option_map, IfOk};
 ghost use Rattle.export_names.specs.Types.{own_type, gallery_id, type_of_gallery, gallery_type};
-ghost use Rattle.export_names.specs.Types.{names_of, template_at};
+ghost use Rattle.export_names.specs.Types.{names_of, template_at, HasTypesOf};
 
-use crate::numbers::Numbers;
+use crate::names::ByName;
+use crate::numbers::{Numbers, numbers_of};
 use export_entries::{WrittenTemplate, WrittenTemplates};
 use gtm_base::{OutOfMemory, Text, Texts};
 use std::alloc::Global;
@@ -52,8 +53,25 @@ fn gallery_id(written: &WrittenTemplate) -> Option<&Text>
     }
 }
 
-/// The types of the templates by the container, in order. Fails where memory is wanting.
-pub fn own_types(alloc: Global, written: &WrittenTemplates) -> Result<Texts, OutOfMemory>
+/// The types that the templates of a container have, as texts: each by the container, and each by the
+/// gallery.
+#[derive(Drop)]
+pub struct TypeTexts {
+    pub own: Texts,
+    pub gallery: Texts,
+}
+
+/// The types that templates have. Fails where memory is wanting.
+pub fn type_texts(alloc: Global, written: &WrittenTemplates) -> Result<TypeTexts, OutOfMemory>
+    ensures { IfOk result (λ made. HasTypesOf written.now made) }
+{
+    let own = own_types(alloc, written)?;
+    let gallery = gallery_types(alloc, written)?;
+    Ok(TypeTexts { own, gallery })
+}
+
+// The types of the templates by the container, in order.
+fn own_types(alloc: Global, written: &WrittenTemplates) -> Result<Texts, OutOfMemory>
     ensures { IfOk result (λ made. made ≡ map own_type written.now) }
 {
     let mut made = Texts::new(alloc);
@@ -63,8 +81,8 @@ pub fn own_types(alloc: Global, written: &WrittenTemplates) -> Result<Texts, Out
     Ok(made)
 }
 
-/// The types of the templates by the gallery, in order. Fails where memory is wanting.
-pub fn gallery_types(alloc: Global, written: &WrittenTemplates) -> Result<Texts, OutOfMemory>
+// The types of the templates by the gallery, in order.
+fn gallery_types(alloc: Global, written: &WrittenTemplates) -> Result<Texts, OutOfMemory>
     ensures { IfOk result (λ made. made ≡ map gallery_type written.now) }
 {
     let mut made = Texts::new(alloc);
@@ -100,19 +118,15 @@ impl<'a> Model for TemplateTypes<'a> {
 }
 
 impl<'a> TemplateTypes<'a> {
-    /// These types by the container, and these by the gallery. Fails where memory is wanting.
-    pub fn of(
-        alloc: Global,
-        own: &'a [&'a Text],
-        gallery: &'a [&'a Text],
-    ) -> Result<TemplateTypes<'a>, OutOfMemory>
-        requires few { length own.now < 2 ^ 32 }
-        requires few_gallery { length gallery.now < 2 ^ 32 }
-        ensures own { IfOk result (λ made. made.own ≡ map (λ t. t.now) own.now) }
-        ensures gallery { IfOk result (λ made. made.gallery ≡ map (λ t. t.now) gallery.now) }
+    /// These types. Fails where memory is wanting.
+    pub fn of(alloc: Global, types: &'a TypeTexts) -> Result<TemplateTypes<'a>, OutOfMemory>
+        requires few { length types.now.own < 2 ^ 32 }
+        requires few_gallery { length types.now.gallery < 2 ^ 32 }
+        ensures own { IfOk result (λ made. made.own ≡ types.now.own) }
+        ensures gallery { IfOk result (λ made. made.gallery ≡ types.now.gallery) }
     {
-        let own = Numbers::of(alloc, own)?;
-        let gallery = Numbers::of(alloc, gallery)?;
+        let own = numbers_of::<ByName, Text>(alloc, &types.own)?;
+        let gallery = numbers_of::<ByName, Text>(alloc, &types.gallery)?;
         Ok(TemplateTypes { own, gallery })
     }
 

@@ -1,10 +1,9 @@
-ghost use Rattle.std.specs.Prelude.{◌≡◌, ◌↔◌, ◌<◌, ◌^◌, map, IsTrue, IfOk};
+ghost use Rattle.std.specs.Prelude.{◌≡◌, IfOk};
 ghost use Rattle.export_model.specs.Small.{HasSmallLists};
 ghost use Rattle.export_model.specs.Sound.{InRange};
-ghost use Rattle.export_names.specs.Types.{own_type, gallery_type};
 ghost use Rattle.export_numbers.specs.Container.{public_id_of, container_by, container_of};
 ghost use Rattle.export_numbers.specs.Templates.{AreRead};
-ghost use Rattle.export_names.specs.Lists.{HasFewEntries};
+ghost use Rattle.export_names.specs.Lists.{lists_of};
 
 use crate::built_ins::built_ins_of;
 use crate::references::references_of;
@@ -14,7 +13,7 @@ use crate::triggers::triggers_of;
 use crate::variables::variables_of;
 use export_entries::{WrittenContainer, WrittenEntries};
 use export_model::{Container, has_small_lists};
-use export_names::{Known, TypeTexts, known_of, name_refs, type_texts};
+use export_names::Known;
 use export_templates::TemplateReadings;
 use gtm_base::{OutOfMemory, Text};
 use std::alloc::Global;
@@ -26,41 +25,21 @@ use std::alloc::Global;
 /// no export of at most 8 MiB has so many.
 pub fn container_of(
     alloc: Global,
+    known: &Known,
     readings: &TemplateReadings,
     written: &WrittenEntries,
 ) -> Result<Container, OutOfMemory>
-    requires { AreRead readings.now written.now.templates }
+    requires known { known.now ≡ lists_of written.now }
+    requires read { AreRead readings.now written.now.templates }
     ensures made { IfOk result (λ made. made ≡ container_of readings.now written.now) }
     ensures small { IfOk result HasSmallLists }
     ensures in_range { IfOk result InRange }
 {
-    if !has_few_entries(written) {
-        return Err(OutOfMemory);
-    }
-    let types = type_texts(alloc, &written.templates)?;
-    let container = container_with(alloc, &types, readings, written)?;
+    let container = container_by(alloc, known, readings, written)?;
     if !has_small_lists(&container) {
         return Err(OutOfMemory);
     }
     Ok(container)
-}
-
-// The container of entries whose templates have these types.
-fn container_with(
-    alloc: Global,
-    types: &TypeTexts,
-    readings: &TemplateReadings,
-    written: &WrittenEntries,
-) -> Result<Container, OutOfMemory>
-    requires few { HasFewEntries written.now }
-    requires read { AreRead readings.now written.now.templates }
-    requires own { types.now.own ≡ map own_type written.now.templates }
-    requires gallery { types.now.gallery ≡ map gallery_type written.now.templates }
-    ensures { IfOk result (λ made. made ≡ container_of readings.now written.now) }
-{
-    let refs = name_refs(alloc, types, written)?;
-    let known = known_of(alloc, &refs)?;
-    container_by(alloc, &known, readings, written)
 }
 
 // The container of entries whose names become numbers by these lists.
@@ -101,22 +80,4 @@ fn public_id_of(alloc: Global, container: &Option<WrittenContainer>) -> Result<T
         Some(container) => container.public_id.copy(alloc),
         None => Ok(Text::new(alloc)),
     }
-}
-
-// Whether each list is short enough that each place has a number of 32 bits.
-fn has_few_entries(written: &WrittenEntries) -> bool
-    ensures { IsTrue result ↔ HasFewEntries written.now }
-{
-    is_few(written.tags.len())
-        && is_few(written.triggers.len())
-        && is_few(written.variables.len())
-        && is_few(written.built_ins.len())
-        && is_few(written.templates.len())
-}
-
-// Whether a number of entries is below 2^32.
-fn is_few(count: usize) -> bool
-    ensures { IsTrue result ↔ (count < 2 ^ 32) }
-{
-    count < 4_294_967_296
 }

@@ -1,4 +1,4 @@
-ghost use Rattle.std.specs.Prelude.{◌≡◌, ◌++◌, map, IfOk, OnOk, filter};
+ghost use Rattle.std.specs.Prelude.{◌≡◌, ◌++◌, IfOk, OnOk, filter};
 ghost use Rattle.text_places.specs.Places.{place_of};
 ghost use Rattle.export_names.specs.Values.{values_of};
 ghost use Rattle.export_numbers.specs.References.{never_ids, never_of_tags, never_of_groups};
@@ -7,7 +7,7 @@ ghost use Rattle.export_names.specs.TriggerRefs.{trigger_ref, is_never};
 
 use export_entries::{WrittenTags, WrittenTriggers};
 use export_fields::WrittenParam;
-use export_names::{Numbers, is_never, member_params, refs, trigger_ref};
+use export_names::{ByName, Numbers, is_never, member_params, texts_of, trigger_ref};
 use gtm_base::{OutOfMemory, Text, Texts};
 use std::alloc::Global;
 use text_places::Places;
@@ -26,7 +26,7 @@ pub fn references_of(
     let mut never = Texts::new(alloc);
     push_never_of_tags(alloc, ids, &mut never, tags)?;
     push_never_of_groups(alloc, ids, &mut never, triggers)?;
-    each_once(alloc, &refs(alloc, &never)?)
+    each_once(alloc, &never)
 }
 
 // Puts the numbers that never hold among those of tags behind the others.
@@ -95,12 +95,12 @@ fn push_never_members(
 }
 
 // Each of the texts once, where it stands first.
-fn each_once(alloc: Global, texts: &[&Text]) -> Result<Texts, OutOfMemory>
-    ensures { IfOk result (λ made. made ≡ each_once (map (λ text. text.now) texts.now)) }
+fn each_once(alloc: Global, texts: &Texts) -> Result<Texts, OutOfMemory>
+    ensures { IfOk result (λ made. made ≡ each_once texts.now) }
 {
-    let places = Places::of(alloc, texts)?;
+    let places = Places::of(alloc, texts_of::<ByName, Text>(alloc, texts.as_slice())?)?;
     let mut made = Texts::new(alloc);
-    for (at, text) in texts.iter().enumerate() {
+    for (at, text) in texts.as_slice().iter().enumerate() {
         if stands_first(&places, at, text) {
             made.push(text.copy(alloc)?)?;
         }

@@ -29,13 +29,15 @@ impl<'a> Names<'a> {
     /// The names of these variables and of these built-in variables. Fails where memory is wanting.
     pub fn of(
         alloc: Global,
-        variables: &'a [&'a Text],
-        built_ins: &'a [&'a Text],
+        variables: Vec<&'a Text>,
+        built_ins: Vec<&'a Text>,
     ) -> Result<Names<'a>, OutOfMemory>
-        requires few_variables { length variables.now < 2 ^ 32 }
-        requires few_built_ins { length built_ins.now < 2 ^ 32 }
-        ensures variables { IfOk result (λ made. made.variables ≡ map (λ t. t.now) variables.now) }
-        ensures built_ins { IfOk result (λ made. made.built_ins ≡ map (λ t. t.now) built_ins.now) }
+        requires few_variables { length variables.items < 2 ^ 32 }
+        requires few_built_ins { length built_ins.items < 2 ^ 32 }
+        ensures variables { IfOk result
+            (λ made. made.variables ≡ map (λ t. t.now) variables.entry.items) }
+        ensures built_ins { IfOk result
+            (λ made. made.built_ins ≡ map (λ t. t.now) built_ins.entry.items) }
     {
         let variables = Places::of(alloc, variables)?;
         let built_ins = Places::of(alloc, built_ins)?;

@@ -1,5 +1,6 @@
 ghost use Rattle.std.specs.Prelude.{◌≡◌, Some, None, IfOk, codes};
 ghost use Rattle.export_model.specs.Sound.{Sound};
+ghost use Rattle.export_names.specs.Lists.{lists_of};
 ghost use Rattle.export_numbers.specs.Container.{container_of};
 ghost use Rattle.export_numbers.specs.Templates.{AreRead};
 ghost use Rattle.export_reader.specs.Container.{loaded_of};
@@ -14,6 +15,7 @@ use crate::paths::in_version;
 use crate::repeats::{duplicate_id, duplicate_name};
 use crate::top::ExportEnd;
 use export_entries::WrittenEntries;
+use export_names::{Known, known_of, type_texts};
 use export_numbers::container_of;
 use export_references::{priority_text, unknown_sequence_tag, unknown_template, unknown_trigger};
 use export_templates::TemplateReadings;
@@ -39,47 +41,53 @@ pub fn judge_entries(
     if let Some(path) = duplicate_name(alloc, written)? {
         return Err(ExportEnd::Refused { rule: 10, path });
     }
-    judge_references(alloc, readings, written)
+    let types = type_texts(alloc, &written.templates)?;
+    let known = known_of(alloc, &types, written)?;
+    judge_references(alloc, &known, readings, written)
 }
 
 // What is loaded of entries, or the first of the rules from 11 on that they break.
 #[tactic(auto, unfolding(crate::specs::FirstBroken::reference_rules))]
 fn judge_references(
     alloc: Global,
+    known: &Known,
     readings: &TemplateReadings,
     written: &WrittenEntries,
 ) -> Result<Loaded, ExportEnd>
-    requires { AreRead readings.now written.now.templates }
+    requires known { known.now ≡ lists_of written.now }
+    requires read { AreRead readings.now written.now.templates }
     ensures judged { Judges result (reference_rules readings.now written.now)
         (Some (loaded_of readings.now written.now)) }
     ensures sound { IfOk result (λ loaded. Sound loaded.container) }
 {
-    if let Some(path) = trigger_path(alloc, written)? {
+    if let Some(path) = trigger_path(alloc, known, written)? {
         return Err(ExportEnd::Refused { rule: 11, path });
     }
-    if let Some(path) = sequence_tag_path(alloc, written)? {
+    if let Some(path) = sequence_tag_path(alloc, known, written)? {
         return Err(ExportEnd::Refused { rule: 14, path });
     }
-    if let Some(path) = template_path(alloc, written)? {
+    if let Some(path) = template_path(alloc, known, written)? {
         return Err(ExportEnd::Refused { rule: 15, path });
     }
-    judge_container(alloc, readings, written)
+    judge_container(alloc, known, readings, written)
 }
 
 // What is loaded of entries, or the first of the rules from 16 on that their container breaks.
 #[tactic(auto, unfolding(crate::specs::FirstBroken::container_rules))]
 fn judge_container(
     alloc: Global,
+    known: &Known,
     readings: &TemplateReadings,
     written: &WrittenEntries,
 ) -> Result<Loaded, ExportEnd>
-    requires { AreRead readings.now written.now.templates }
+    requires known { known.now ≡ lists_of written.now }
+    requires read { AreRead readings.now written.now.templates }
     ensures judged { Judges result
         (container_rules written.now (container_of readings.now written.now))
         (Some (loaded_of readings.now written.now)) }
     ensures sound { IfOk result (λ loaded. Sound loaded.container) }
 {
-    let container = container_of(alloc, readings, written)?;
+    let container = container_of(alloc, known, readings, written)?;
     if let Some(path) = variable_cycle(alloc, &container)? {
         return Err(ExportEnd::Refused { rule: 16, path });
     }
@@ -97,28 +105,43 @@ fn judge_container(
 
 // The path of the first number of a trigger that stands for none.
 #[tactic(auto, unfolding(crate::specs::Rules::unknown_trigger))]
-fn trigger_path(alloc: Global, written: &WrittenEntries) -> Result<Option<Text>, OutOfMemory>
+fn trigger_path(
+    alloc: Global,
+    known: &Known,
+    written: &WrittenEntries,
+) -> Result<Option<Text>, OutOfMemory>
+    requires { known.now ≡ lists_of written.now }
     ensures { IfOk result (λ path. path ≡ rules.unknown_trigger written.now) }
 {
-    let path = unknown_trigger(alloc, written)?;
+    let path = unknown_trigger(alloc, known, written)?;
     in_version(alloc, &path)
 }
 
 // The path of the first name of a setup or teardown tag that no tag has.
 #[tactic(auto, unfolding(crate::specs::Rules::unknown_sequence_tag))]
-fn sequence_tag_path(alloc: Global, written: &WrittenEntries) -> Result<Option<Text>, OutOfMemory>
+fn sequence_tag_path(
+    alloc: Global,
+    known: &Known,
+    written: &WrittenEntries,
+) -> Result<Option<Text>, OutOfMemory>
+    requires { known.now ≡ lists_of written.now }
     ensures { IfOk result (λ path. path ≡ rules.unknown_sequence_tag written.now) }
 {
-    let path = unknown_sequence_tag(alloc, written)?;
+    let path = unknown_sequence_tag(alloc, known, written)?;
     in_version(alloc, &path)
 }
 
 // The path of the first type of a custom template that no template has.
 #[tactic(auto, unfolding(crate::specs::Rules::unknown_template))]
-fn template_path(alloc: Global, written: &WrittenEntries) -> Result<Option<Text>, OutOfMemory>
+fn template_path(
+    alloc: Global,
+    known: &Known,
+    written: &WrittenEntries,
+) -> Result<Option<Text>, OutOfMemory>
+    requires { known.now ≡ lists_of written.now }
     ensures { IfOk result (λ path. path ≡ rules.unknown_template written.now) }
 {
-    let path = unknown_template(alloc, written)?;
+    let path = unknown_template(alloc, known, written)?;
     in_version(alloc, &path)
 }
 

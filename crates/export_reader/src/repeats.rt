@@ -3,9 +3,11 @@ ghost use Rattle.export_reader.specs.Rules as rules;
 ghost use Rattle.export_reader.specs.Rules.{repeated};
 
 use crate::paths::entry_path;
-use export_entries::WrittenEntries;
-use export_names::{tag_ids, tag_names, template_ids, trigger_ids, variable_ids, variable_names};
-use gtm_base::{OutOfMemory, Text};
+use export_entries::{
+    WrittenEntries, WrittenTag, WrittenTemplate, WrittenTrigger, WrittenVariable,
+};
+use export_names::{ById, ByName, FoundBy, texts_of};
+use gtm_base::{ListOf, OutOfMemory, Text};
 use std::alloc::Global;
 use text_places::first_repeat;
 
@@ -14,23 +16,19 @@ use text_places::first_repeat;
 pub fn duplicate_id(alloc: Global, written: &WrittenEntries) -> Result<Option<Text>, OutOfMemory>
     ensures { IfOk result (λ found. found ≡ rules.duplicate_id written.now) }
 {
-    let tag = repeated(alloc, "tag", &tag_ids(alloc, &written.tags)?)?;
+    let tag = repeated::<ById, WrittenTag>(alloc, "tag", &written.tags)?;
     if tag.is_some() {
         return Ok(tag);
     }
-    let trigger = repeated(alloc, "trigger", &trigger_ids(alloc, &written.triggers)?)?;
+    let trigger = repeated::<ById, WrittenTrigger>(alloc, "trigger", &written.triggers)?;
     if trigger.is_some() {
         return Ok(trigger);
     }
-    let variable = repeated(alloc, "variable", &variable_ids(alloc, &written.variables)?)?;
+    let variable = repeated::<ById, WrittenVariable>(alloc, "variable", &written.variables)?;
     if variable.is_some() {
         return Ok(variable);
     }
-    let template = repeated(
-        alloc,
-        "customTemplate",
-        &template_ids(alloc, &written.templates)?,
-    )?;
+    let template = repeated::<ById, WrittenTemplate>(alloc, "customTemplate", &written.templates)?;
     Ok(template)
 }
 
@@ -40,22 +38,23 @@ pub fn duplicate_id(alloc: Global, written: &WrittenEntries) -> Result<Option<Te
 pub fn duplicate_name(alloc: Global, written: &WrittenEntries) -> Result<Option<Text>, OutOfMemory>
     ensures { IfOk result (λ found. found ≡ rules.duplicate_name written.now) }
 {
-    let tag = repeated(alloc, "tag", &tag_names(alloc, &written.tags)?)?;
+    let tag = repeated::<ByName, WrittenTag>(alloc, "tag", &written.tags)?;
     if tag.is_some() {
         return Ok(tag);
     }
-    let variable = repeated(
-        alloc,
-        "variable",
-        &variable_names(alloc, &written.variables)?,
-    )?;
+    let variable = repeated::<ByName, WrittenVariable>(alloc, "variable", &written.variables)?;
     Ok(variable)
 }
 
-// The path of the first entry of a list that has the text of an earlier one.
-fn repeated(alloc: Global, key: &str, texts: &[&Text]) -> Result<Option<Text>, OutOfMemory>
-    ensures { IfOk result (λ found. found ≡ repeated key.now (map (λ text. text.now) texts.now)) }
+// The path of the first entry of a list that is found by the text of an earlier one.
+fn repeated<By, T: FoundBy<By>>(
+    alloc: Global,
+    key: &str,
+    entries: &ListOf<T>,
+) -> Result<Option<Text>, OutOfMemory>
+    ensures { IfOk result (λ found. found ≡ repeated key.now (map T.text entries.now)) }
 {
-    let found = first_repeat(alloc, texts)?;
+    let texts = texts_of::<By, T>(alloc, entries.as_slice())?;
+    let found = first_repeat(alloc, texts.as_slice())?;
     entry_path(alloc, key, found)
 }

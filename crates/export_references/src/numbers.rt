@@ -3,18 +3,18 @@ ghost use Rattle.std.specs.Str.{chars, all_ascii_digits};
 ghost use Rattle.gtm_data.specs.WholeText.{read_on};
 ghost use Rattle.export_references.specs.UnknownTriggers.{is_reserved, is_unknown};
 
+use export_names::Numbers;
 use gtm_base::Text;
-use text_places::Places;
 
 // The first number of Tag Manager's own triggers.
 const FIRST_RESERVED: u64 = 2_147_479_000;
 
 // Whether a number stands for no trigger. The built-in triggers that hold have reserved numbers.
 #[tactic(auto, using(crate::proofs::Wholes::unknown_alike))]
-pub(crate) fn is_unknown(ids: &Places, id: &Text) -> bool
+pub(crate) fn is_unknown(ids: &Numbers, id: &Text) -> bool
     ensures { result ≡ is_unknown ids.now id.now }
 {
-    ids.place(id.as_str()).is_none() && !is_reserved(id.as_str())
+    ids.number(id).is_none() && !is_reserved(id.as_str())
 }
 
 // Whether a number is one of Tag Manager's own.

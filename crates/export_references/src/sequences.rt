@@ -1,32 +1,31 @@
 ghost use Rattle.std.specs.Prelude.{◌≡◌, codes, IfOk, None};
 ghost use Rattle.std.specs.Option.{option_map_or};
+ghost use Rattle.export_names.specs.Lists.{lists_of};
 ghost use Rattle.export_references.specs.FirstFault.{list_fault};
 ghost use Rattle.export_references.specs.UnknownTags.{unknown_sequence_tag, tag_fault, name_fault};
 
 use crate::paths::{item_path, member_path};
 use export_entries::{WrittenEntries, WrittenSetup, WrittenTag, WrittenTags, WrittenTeardown};
-use export_names::tag_names;
+use export_names::{Known, Numbers};
 use gtm_base::{OutOfMemory, Text};
 use std::alloc::Global;
-use text_places::Places;
 
 /// The path, from the container version, of the first name of a setup or teardown tag that no tag
-/// has: of each tag, that of its setup tag before that of its teardown tag. `None` where a tag has
+/// has, by the lists of the entries: of each tag, that of its setup tag before that of its teardown tag. `None` where a tag has
 /// each name. Fails where memory is wanting.
 pub fn unknown_sequence_tag(
     alloc: Global,
+    known: &Known,
     written: &WrittenEntries,
 ) -> Result<Option<Text>, OutOfMemory>
+    requires { known.now ≡ lists_of written.now }
     ensures { IfOk result (λ found. found ≡ unknown_sequence_tag written.now) }
 {
-    let texts = tag_names(alloc, &written.tags)?;
-    let names = Places::of(alloc, &texts)?;
-    let found = in_tags(alloc, &names, &written.tags)?;
-    Ok(found)
+    in_tags(alloc, &known.tags, &written.tags)
 }
 
 // The first unknown name of a tag.
-fn in_tags(alloc: Global, names: &Places, tags: &WrittenTags) -> Result<Option<Text>, OutOfMemory>
+fn in_tags(alloc: Global, names: &Numbers, tags: &WrittenTags) -> Result<Option<Text>, OutOfMemory>
     ensures { IfOk result
         (λ found. found ≡ list_fault (codes "tag") (tag_fault names.now) tags.now) }
 {
@@ -40,7 +39,7 @@ fn in_tags(alloc: Global, names: &Places, tags: &WrittenTags) -> Result<Option<T
 }
 
 // The first unknown name of this tag: that of its setup tag, then that of its teardown tag.
-fn in_tag(alloc: Global, names: &Places, tag: &WrittenTag) -> Result<Option<Text>, OutOfMemory>
+fn in_tag(alloc: Global, names: &Numbers, tag: &WrittenTag) -> Result<Option<Text>, OutOfMemory>
     ensures { IfOk result (λ found. found ≡ tag_fault names.now tag.now) }
 {
     let setup = in_setup(alloc, names, &tag.turn.setup)?;
@@ -53,7 +52,7 @@ fn in_tag(alloc: Global, names: &Places, tag: &WrittenTag) -> Result<Option<Text
 // The name of the setup tag, where it is unknown.
 fn in_setup(
     alloc: Global,
-    names: &Places,
+    names: &Numbers,
     setup: &Option<WrittenSetup>,
 ) -> Result<Option<Text>, OutOfMemory>
     ensures { IfOk result
@@ -70,7 +69,7 @@ fn in_setup(
 // The name of the teardown tag, where it is unknown.
 fn in_teardown(
     alloc: Global,
-    names: &Places,
+    names: &Numbers,
     teardown: &Option<WrittenTeardown>,
 ) -> Result<Option<Text>, OutOfMemory>
     ensures { IfOk result
@@ -87,13 +86,13 @@ fn in_teardown(
 // The name in the one entry of the list at a key, where it is unknown.
 fn in_name(
     alloc: Global,
-    names: &Places,
+    names: &Numbers,
     key: &str,
     name: &Text,
 ) -> Result<Option<Text>, OutOfMemory>
     ensures { IfOk result (λ found. found ≡ name_fault names.now key.now name.now) }
 {
-    if names.place(name.as_str()).is_some() {
+    if names.number(name).is_some() {
         return Ok(None);
     }
     let field = member_path(alloc, "tagName")?;

@@ -1,5 +1,6 @@
 ghost use Rattle.std.specs.Prelude.{◌≡◌, codes, IfOk, option_map};
 ghost use Rattle.export_fields.specs.Fault.{in_index};
+ghost use Rattle.export_names.specs.Lists.{lists_of};
 ghost use Rattle.export_references.specs.FirstFault.{list_fault};
 ghost use Rattle.export_references.specs.UnknownTriggers.{unknown_trigger, tag_fault, id_fault};
 ghost use Rattle.export_references.specs.UnknownTriggers.{group_fault, first_list_fault};
@@ -9,30 +10,32 @@ use crate::numbers::is_unknown;
 use crate::paths::{item_path, member_path};
 use export_entries::{WrittenEntries, WrittenTag, WrittenTags, WrittenTrigger, WrittenTriggers};
 use export_fields::{WrittenParam, WrittenParams, index_before, key_before};
-use export_names::{is_group, is_member_list, trigger_ids};
+use export_names::{Known, Numbers, is_group, is_member_list};
 use gtm_base::{OutOfMemory, Text, Texts};
 use std::alloc::Global;
-use text_places::Places;
 
 /// The path, from the container version, of the first number of a trigger that stands for none: of
 /// those of each tag, its firing triggers before its blocking ones, and then of those of each
 /// group's members. A number stands for the trigger of the container that has it, and one of at
 /// least 2147479000 for a trigger of Tag Manager's own. `None` where each stands for one. Fails
 /// where memory is wanting.
-pub fn unknown_trigger(alloc: Global, written: &WrittenEntries) -> Result<Option<Text>, OutOfMemory>
+pub fn unknown_trigger(
+    alloc: Global,
+    known: &Known,
+    written: &WrittenEntries,
+) -> Result<Option<Text>, OutOfMemory>
+    requires { known.now ≡ lists_of written.now }
     ensures { IfOk result (λ found. found ≡ unknown_trigger written.now) }
 {
-    let texts = trigger_ids(alloc, &written.triggers)?;
-    let ids = Places::of(alloc, &texts)?;
-    let tag = in_tags(alloc, &ids, &written.tags)?;
+    let tag = in_tags(alloc, &known.triggers, &written.tags)?;
     if tag.is_some() {
         return Ok(tag);
     }
-    in_groups(alloc, &ids, &written.triggers)
+    in_groups(alloc, &known.triggers, &written.triggers)
 }
 
 // The first unknown number of a tag.
-fn in_tags(alloc: Global, ids: &Places, tags: &WrittenTags) -> Result<Option<Text>, OutOfMemory>
+fn in_tags(alloc: Global, ids: &Numbers, tags: &WrittenTags) -> Result<Option<Text>, OutOfMemory>
     ensures { IfOk result (λ found. found ≡ list_fault (codes "tag") (tag_fault ids.now) tags.now) }
 {
     for (at, tag) in tags.as_slice().iter().enumerate() {
@@ -45,7 +48,7 @@ fn in_tags(alloc: Global, ids: &Places, tags: &WrittenTags) -> Result<Option<Tex
 }
 
 // The first unknown number of this tag: of its firing triggers, then of its blocking ones.
-fn in_tag(alloc: Global, ids: &Places, tag: &WrittenTag) -> Result<Option<Text>, OutOfMemory>
+fn in_tag(alloc: Global, ids: &Numbers, tag: &WrittenTag) -> Result<Option<Text>, OutOfMemory>
     ensures { IfOk result (λ found. found ≡ tag_fault ids.now tag.now) }
 {
     let firing = in_list(alloc, ids, "firingTriggerId", &tag.firing)?;
@@ -58,7 +61,7 @@ fn in_tag(alloc: Global, ids: &Places, tag: &WrittenTag) -> Result<Option<Text>,
 // The first unknown number in the list of numbers at a key.
 fn in_list(
     alloc: Global,
-    ids: &Places,
+    ids: &Numbers,
     key: &str,
     list: &Texts,
 ) -> Result<Option<Text>, OutOfMemory>
@@ -76,7 +79,7 @@ fn in_list(
 // The first unknown number of a group's member.
 fn in_groups(
     alloc: Global,
-    ids: &Places,
+    ids: &Numbers,
     triggers: &WrittenTriggers,
 ) -> Result<Option<Text>, OutOfMemory>
     ensures { IfOk result
@@ -94,7 +97,7 @@ fn in_groups(
 // The first unknown number of a member of this trigger, where it is a group.
 fn in_group(
     alloc: Global,
-    ids: &Places,
+    ids: &Numbers,
     trigger: &WrittenTrigger,
 ) -> Result<Option<Text>, OutOfMemory>
     ensures { IfOk result (λ found. found ≡ group_fault ids.now trigger.now) }
@@ -111,7 +114,7 @@ fn in_group(
 // The first unknown number in the first list of members among these parameters.
 fn in_first_list(
     alloc: Global,
-    ids: &Places,
+    ids: &Numbers,
     params: &WrittenParams,
 ) -> Result<Option<Text>, OutOfMemory>
     ensures { IfOk result (λ found. found ≡ first_list_fault ids.now 0 params.now) }
@@ -127,7 +130,7 @@ fn in_first_list(
 // The first unknown number in the list of members at a place among the parameters.
 fn in_list_at(
     alloc: Global,
-    ids: &Places,
+    ids: &Numbers,
     at: usize,
     param: &WrittenParam,
 ) -> Result<Option<Text>, OutOfMemory>
@@ -143,7 +146,7 @@ fn in_list_at(
 // The first unknown number in a list of members.
 fn in_members(
     alloc: Global,
-    ids: &Places,
+    ids: &Numbers,
     param: &WrittenParam,
 ) -> Result<Option<Text>, OutOfMemory>
     ensures { IfOk result (λ found. found ≡ members_fault ids.now param.now) }

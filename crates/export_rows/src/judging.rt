@@ -1,5 +1,6 @@
 use export_entries::read_entries;
 use export_model::Container;
+use export_names::{known_of, type_texts};
 use export_numbers::container_of;
 use export_reader::{ExportEnd, read_export};
 use export_templates::read_templates;
@@ -31,7 +32,9 @@ pub fn container_in(alloc: Global, export: &[u8]) -> Result<Container, Fail> {
     let version = tree.get("containerVersion").ok_or("no version")?;
     let written = read_entries(alloc, version)?;
     let readings = read_templates(alloc, &written.templates)?;
-    let container = container_of(alloc, &readings, &written)?;
+    let types = type_texts(alloc, &written.templates)?;
+    let known = known_of(alloc, &types, &written)?;
+    let container = container_of(alloc, &known, &readings, &written)?;
     Ok(container)
 }
 

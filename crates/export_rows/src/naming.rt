@@ -58,9 +58,9 @@ fn names_in_texts(rt: HostRuntime) -> Result<(), Fail> {
     let value = Text::from_str(alloc, "Value")?;
     let event = Text::from_str(alloc, "Event")?;
     let page = Text::from_str(alloc, "Page URL")?;
-    let variables = [&value, &event];
-    let built_ins = [&event, &page];
-    let names = Names::of(alloc, &variables, &built_ins)?;
+    let variables = vec![in alloc; &value, &event]?;
+    let built_ins = vec![in alloc; &event, &page]?;
+    let names = Names::of(alloc, variables, built_ins)?;
     for row in ROWS {
         let pieces = pieces_of(alloc, &names, row.text)?;
         assert!(rt; are_pieces(&pieces, row.pieces), "{}", row.text);

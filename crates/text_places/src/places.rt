@@ -11,7 +11,7 @@ use std::marker::Model;
 /// A list of texts, in which the first place of a text is found in about log n steps.
 #[derive(Drop)]
 pub struct Places<'a> {
-    texts: &'a [&'a Text],
+    texts: Vec<&'a Text>,
     first: BTreeMap<&'a str, usize>,
 }
 
@@ -21,17 +21,18 @@ impl<'a> Model for Places<'a> {
 
     ghost Value = { List (List ℕ) };
 
-    ghost view = { λ places. map (λ t. t.now) places.texts.now };
+    ghost view = { λ places. map (λ t. t.now) places.texts.items };
 
-    ghost invariant = { λ places. Indexes places.first (map (λ t. t.now) places.texts.now) };
+    ghost invariant = { λ places.
+        Indexes places.first (map (λ t. t.now) places.texts.items) };
 }
 
 impl<'a> Places<'a> {
     /// The places of these texts. Fails where memory is wanting.
-    pub fn of(alloc: Global, texts: &'a [&'a Text]) -> Result<Places<'a>, OutOfMemory>
-        ensures { IfOk result (λ made. made ≡ map (λ t. t.now) texts.now) }
+    pub fn of(alloc: Global, texts: Vec<&'a Text>) -> Result<Places<'a>, OutOfMemory>
+        ensures { IfOk result (λ made. made ≡ map (λ t. t.now) texts.entry.items) }
     {
-        let first = first_places(alloc, texts)?;
+        let first = first_places(alloc, texts.as_slice())?;
         Ok(Places { texts, first })
     }
 
@@ -48,7 +49,7 @@ impl<'a> Places<'a> {
 /// A map from each of these texts to its first place. Fails where memory is wanting.
 fn first_places<'a>(
     alloc: Global,
-    texts: &'a [&'a Text],
+    texts: &[&'a Text],
 ) -> Result<BTreeMap<&'a str, usize>, OutOfMemory>
     ensures { IfOk result (λ first. Indexes first (map (λ t. t.now) texts.now)) }
 {
