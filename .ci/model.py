@@ -2,6 +2,8 @@
 """A second, plain reading of the data layer's rules, to be compared with gtm_replay.
 
 model.py trace N    prints a trace of N mixed pushes and command arrays
+model.py wide N     prints a trace with N keys, of which many differ in their last character, long
+                    Lists, and every character that is escaped
 model.py run FILE   prints what gtm_replay should print of that trace, over an export without entries
 """
 import json
@@ -169,9 +171,40 @@ def trace(count):
         print(json.dumps({'push': pushed}, ensure_ascii=chance.random() < 0.5, separators=(',', ':')))
 
 
+def wide(count):
+    """One key after the other, then many in one push, and again with other values."""
+    chance = random.Random(2027)
+
+    def key(at):
+        return f'key_of_some_length_{at // 7}{"abcdefg"[at % 7]}'
+
+    def push(value):
+        print(json.dumps({'push': value}, ensure_ascii=chance.random() < 0.5))
+
+    for at in range(count):
+        push({key(at): at, f'deep.{key(at)}': [at]})
+    order = list(range(count))
+    chance.shuffle(order)
+    for part in (order, order[:64], order[:65], order[64:200]):
+        push({key(at): -at for at in part})
+        push({'deep': {key(at): {'now': at} for at in part}})
+    push({'list': list(range(count))})
+    for at in range(0, count, 100):
+        push({'list': [None] * at + [{'at': at}]})
+        push(['list.shift'])
+        push([f'list.{at}.push', 1])
+    push(['list.reverse'])
+    every = ''.join(map(chr, range(0x20))) + '"\\/\x7f\u2028é\U0001f600'
+    for character in every:
+        push({'text': character, f'key {character}': 'a' * 300 + character})
+    push({every.replace('.', ''): every})
+
+
 if __name__ == '__main__':
     if sys.argv[1:2] == ['trace']:
         trace(int(sys.argv[2]))
+    elif sys.argv[1:2] == ['wide']:
+        wide(int(sys.argv[2]))
     else:
         with open(sys.argv[2], encoding='utf-8', newline='\n') as lines:
             run(lines)
