@@ -53,8 +53,8 @@ fn gallery_id(written: &WrittenTemplate) -> Option<&Text>
     }
 }
 
-/// The types that the templates of a container have, as texts: each by the container, and each by the
-/// gallery.
+/// The types that the templates of a container have, as texts: each by the container, and each by
+/// the gallery.
 #[derive(Drop)]
 pub struct TypeTexts {
     pub own: Texts,

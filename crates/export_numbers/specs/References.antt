@@ -1,9 +1,8 @@
 -- The numbers of triggers that never hold.
-use Rattle.std.specs.Prelude.{ℕ, suc, List, [], ◌∷◌, ◌++◌, Bool, false, Option, Some, None, ◌==◌}
-use Rattle.std.specs.Prelude.{filter, if◌then◌else◌}
-use Rattle.std.specs.List.{flat_map, list_any}
-use Rattle.std.specs.Str.{bytes_eq}
-use Rattle.text_places.specs.Places.{place_of}
+use Rattle.std.specs.Prelude.{◌≡◌, ◌<◌, ℕ, suc, List, [], ◌∷◌, ◌++◌, Bool, false, Option, Some, None}
+use Rattle.std.specs.Prelude.{◌==◌, filter, if◌then◌else◌, slice_get}
+use Rattle.std.specs.List.{flat_map}
+use Rattle.text_places.specs.Places.{place_of, AllDifferent, IsFirstPlace}
 use Rattle.export_entries.specs.declared.tags.WrittenTag.{WrittenTag}
 use Rattle.export_entries.specs.declared.triggers.WrittenTrigger.{WrittenTrigger}
 use Rattle.export_names.specs.Members.{member_ids}
@@ -42,15 +41,18 @@ each_once texts = firsts_from texts 0 texts
 abbrev pub references_of : List (List ℕ) → List WrittenTag → List WrittenTrigger → List (List ℕ)
 references_of ids tags triggers = each_once (never_of_tags ids tags ++ never_of_groups ids triggers)
 
--- a text was told
-abbrev pub is_told : List (List ℕ) → List ℕ → Bool
-is_told told text = list_any (λ t. bytes_eq t text) told
-
--- what was told, and a text behind it unless it was
-abbrev pub told_with : List (List ℕ) → List ℕ → List (List ℕ)
-told_with told text = if is_told told text then told else told ++ text ∷ []
-
--- what was told, and each of the texts behind it that was not
-abbrev pub told_behind : List (List ℕ) → List (List ℕ) → List (List ℕ)
-told_behind told [] = told
-told_behind told (text ∷ texts) = told_behind (told_with told text) texts
+-- these are the texts of a list, each once, in the order of their first places in it
+pub record IsEachOnce (texts told : List (List ℕ)) : Type 0 where
+  -- no text is told twice
+  pub different : AllDifferent told
+  -- a text that is told stands in the list
+  pub stands : (at : ℕ) (text : List ℕ) → slice_get told at ≡ Some text
+      → (place : ℕ) × (slice_get texts place ≡ Some text)
+  -- a text of the list is told
+  pub is_told : (place : ℕ) (text : List ℕ) → slice_get texts place ≡ Some text
+      → (at : ℕ) × (slice_get told at ≡ Some text)
+  -- of two texts, the one that is told earlier stands first earlier
+  pub in_order : (some other : ℕ) (text later : List ℕ) → some < other
+      → slice_get told some ≡ Some text → slice_get told other ≡ Some later
+      → (first second : ℕ) → IsFirstPlace texts text first → IsFirstPlace texts later second
+      → first < second

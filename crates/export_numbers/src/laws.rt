@@ -1,19 +1,19 @@
-ghost use Rattle.std.specs.Prelude.{◌≡◌, ℕ, List, []};
+ghost use Rattle.std.specs.Prelude.{◌≡◌, ℕ, List};
 ghost use Rattle.export_entries.specs.declared.templates.WrittenTemplate.{WrittenTemplate};
 ghost use Rattle.export_entries.specs.declared.triggers.WrittenTrigger.{WrittenTrigger};
 ghost use Rattle.export_model.specs.Sound.{InRange};
 ghost use Rattle.export_entries.specs.declared.entries.WrittenEntries.{WrittenEntries};
 ghost use Rattle.export_numbers.specs.Container.{container_of};
-ghost use Rattle.export_numbers.specs.References.{each_once, told_behind};
+ghost use Rattle.export_numbers.specs.References.{each_once, IsEachOnce};
 ghost use Rattle.export_numbers.specs.Templates.{AreRead};
 ghost use Rattle.export_templates.specs.declared.readings.TemplateReading.{TemplateReading};
 ghost use Rattle.export_numbers.specs.Triggers.{kind_of, is_group_kind};
 ghost use Rattle.export_names.specs.Members.{is_group};
 
-/// A law, with nothing to call: texts told each once come one behind the other, each unless it was
-/// told before.
+/// A law, with nothing to call: of texts that are told each once none stands twice, they are those
+/// of the list, and they come in the order of their first places in it.
 pub fn each_text_is_told_once()
-    ensures { (texts : List (List ℕ)) → each_once texts ≡ told_behind [] texts }
+    ensures { (texts : List (List ℕ)) → IsEachOnce texts (each_once texts) }
 {}
 
 /// A law, with nothing to call: a trigger has the members of a group exactly where its kind is that

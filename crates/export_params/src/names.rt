@@ -22,7 +22,8 @@ impl<'a> Model for Names<'a> {
 
     ghost view = { λ names. record { variables = names.variables; built_ins = names.built_ins } };
 
-    ghost invariant = { λ names. AreFew (record { variables = names.variables; built_ins = names.built_ins }) };
+    ghost invariant = { λ names.
+        AreFew (record { variables = names.variables; built_ins = names.built_ins }) };
 }
 
 impl<'a> Names<'a> {

@@ -11,8 +11,8 @@ use gtm_base::{OutOfMemory, Text};
 use std::alloc::Global;
 
 /// The path, from the container version, of the first name of a setup or teardown tag that no tag
-/// has, by the lists of the entries: of each tag, that of its setup tag before that of its teardown tag. `None` where a tag has
-/// each name. Fails where memory is wanting.
+/// has: of each tag, that of its setup tag before that of its teardown tag. The names are looked up
+/// in the lists of these entries. `None` where a tag has each name. Fails where memory is wanting.
 pub fn unknown_sequence_tag(
     alloc: Global,
     known: &Known,
