@@ -37,8 +37,9 @@ module _ (all : List (List ℕ)) where
       → FirstFrom (suc place) t)
       → (at : ℕ) (t : List ℕ)
       → slice_get
-      (if test then text ∷ firsts_from all (suc place) rest else firsts_from all (suc place) rest) at
-      ≡ Some t
+      (if test then text ∷ firsts_from all (suc place) rest
+      else firsts_from all (suc place) rest)
+      at ≡ Some t
       → FirstFrom place t
   from_by place text rest true is later zero t here = (
     place,

@@ -1,6 +1,6 @@
 -- The numbers of triggers that never hold.
-use Rattle.std.specs.Prelude.{◌≡◌, ◌<◌, ℕ, suc, List, [], ◌∷◌, ◌++◌, Bool, false, Option, Some, None}
-use Rattle.std.specs.Prelude.{◌==◌, filter, if◌then◌else◌, slice_get}
+use Rattle.std.specs.Prelude.{◌≡◌, ◌<◌, ◌==◌, ℕ, suc, List, [], ◌∷◌, ◌++◌, Bool, false, Option}
+use Rattle.std.specs.Prelude.{Some, None, filter, if◌then◌else◌, slice_get}
 use Rattle.std.specs.List.{flat_map}
 use Rattle.text_places.specs.Places.{place_of, AllDifferent, IsFirstPlace}
 use Rattle.export_entries.specs.declared.tags.WrittenTag.{WrittenTag}

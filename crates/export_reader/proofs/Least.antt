@@ -8,7 +8,9 @@ use Rattle.export_entries.specs.Entries.{entries_of}
 use Rattle.export_entries.specs.declared.entries.WrittenEntries.{WrittenEntries}
 use Rattle.export_reader.specs.FirstBroken.{Rule, container_rules, reference_rules, entries_rules}
 use Rattle.export_reader.specs.FirstBroken.{version_rules, tree_rules, rules_of, export_rules}
-use Rattle.export_reader.specs.FirstBroken.{first_of, first_broken, Breaks}
+use Rattle.export_reader.specs.FirstBroken.{first_of, first_broken}
+use Rattle.export_reader.specs.Breaks.{Breaks}
+use Rattle.export_reader.proofs.Listed.{Among, among_breaks, breaks_among}
 use Rattle.export_reader.specs.Rules.{version_in}
 use Rattle.export_templates.specs.Readings.{readings_of}
 use Rattle.export_templates.specs.declared.readings.TemplateReading.{TemplateReading}
@@ -24,10 +26,6 @@ none_some is = cc
 abbrev Rises : ℕ → ℕ → List Rule → Type 0
 Rises from until [] = from ≤ until
 Rises from until (rule ∷ rules) = (from ≤ rule.0) × Rises (suc rule.0) until rules
-
--- a rule of the list, broken at this path
-abbrev Among : List Rule → ℕ → List ℕ → Type 0
-Among rules number path = (at : ℕ) × (slice_get rules at ≡ Some (number, Some path))
 
 found : (rules : List Rule) (number : ℕ) (path : List ℕ) → first_of rules ≡ Some (number, path)
     → Among rules number path
@@ -152,16 +150,20 @@ pub first_is_least : (bytes path : List ℕ) (rule : ℕ) → (first_broken byte
     × ((other : ℕ) (place : List ℕ) → Breaks bytes other place → rule ≤ other))
 first_is_least bytes path rule = (
   (λ is. (
-    found (export_rules bytes) rule path is,
-    least (export_rules bytes) 1 30 rule path (rise bytes) is,
+    among_breaks bytes rule path (found (export_rules bytes) rule path is),
+    (λ other place breaks. least (export_rules bytes) 1 30 rule path (rise bytes) is other place
+        (breaks_among bytes other place breaks)),
   )),
   (λ both. told (export_rules bytes) 1 30 (first_of (export_rules bytes)) refl (rise bytes) rule
-      path both.0 both.1),
+      path (breaks_among bytes rule path both.0)
+      (λ other place among. both.1 other place (among_breaks bytes other place among))),
 )
 
 pub none_is_broken : (bytes : List ℕ) → (first_broken bytes ≡ None)
     ↔ ((rule : ℕ) (path : List ℕ) → Breaks bytes rule path → ⊥)
 none_is_broken bytes = (
-  nothing (export_rules bytes),
-  unbroken (export_rules bytes) (first_of (export_rules bytes)) refl,
+  (λ is rule path breaks. nothing (export_rules bytes) is rule path
+      (breaks_among bytes rule path breaks)),
+  (λ none. unbroken (export_rules bytes) (first_of (export_rules bytes)) refl
+      (λ rule path among. none rule path (among_breaks bytes rule path among))),
 )

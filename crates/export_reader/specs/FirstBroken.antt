@@ -82,10 +82,6 @@ first_of rules = slice_get (filter_map broken rules) 0
 abbrev pub first_broken : List ℕ → Option (ℕ × List ℕ)
 first_broken bytes = first_of (export_rules bytes)
 
--- the export breaks this rule, first at this path
-abbrev pub Breaks : List ℕ → ℕ → List ℕ → Type 0
-Breaks bytes rule path = (at : ℕ) × (slice_get (export_rules bytes) at ≡ Some (rule, Some path))
-
 -- a refusal names the first of these rules that is broken, and its path
 abbrev pub Refuses : List Rule → ExportEnd → Type 0
 Refuses rules OutOfMemory = Unit {0}

@@ -1,3 +1,4 @@
+pub mod Breaks
 pub mod Container
 pub mod FirstBroken
 pub mod Rules

@@ -1,5 +1,6 @@
 ghost use Rattle.std.specs.Prelude.{◌≡◌, ◌≤◌, ◌↔◌, ℕ, List, Some, None};
-ghost use Rattle.export_reader.specs.FirstBroken.{first_broken, Breaks};
+ghost use Rattle.export_reader.specs.Breaks.{Breaks};
+ghost use Rattle.export_reader.specs.FirstBroken.{first_broken};
 
 /// A law, with nothing to call: the first broken rule is the broken one of the least number, at its
 /// path; and there is none exactly where no rule is broken.
