@@ -1,3 +1,5 @@
 pub mod Counts
 pub mod FirstKeys
+pub mod Joined
+pub mod NamedRest
 pub mod ValueTrees

@@ -5,12 +5,16 @@
 //! lengths of the lists that they name, templates are used as what they are, and nothing refers to
 //! itself. A contract sees a parameter as its `param_of`, a tree of plain numbers, texts and lists.
 //! `first_of_key` gives the first parameter with a key, and its law says so of all lists.
+//! `variable_graph` and `group_graph` tell which variables name which, and which groups have which
+//! triggers as members.
 #![tactic(auto)]
 
 mod conditions;
 mod container;
+mod graphs;
 mod keys;
 mod laws;
+mod names;
 mod params;
 mod small;
 mod tags;
@@ -20,6 +24,7 @@ mod variables;
 
 pub use conditions::{Condition, Conditions, Op};
 pub use container::Container;
+pub use graphs::{group_graph, variable_graph};
 pub use keys::first_of_key;
 pub use laws::a_key_finds_its_first_parameter;
 pub use params::{NameRef, Param, ParamValue, Params, Piece, Pieces};

@@ -16,8 +16,8 @@ use Rattle.export_model.specs.declared.variables.VariableKind.TheVariants.{Globa
 use Rattle.export_model.specs.declared.variables.VariableKind.TheVariants.{EventName, Lookup}
 use Rattle.export_model.specs.declared.variables.VariableKind.TheVariants.{RegexTable, Template}
 use Rattle.export_model.specs.declared.variables.VariableKind.TheVariants.{Unknown}
-use Rattle.export_numbers.specs.Container.{container_of}
-use Rattle.export_numbers.specs.Templates.{templates_of}
+use Rattle.export_container.specs.Container.{container_of}
+use Rattle.export_container.specs.Templates.{templates_of}
 use Rattle.export_reader.specs.Rules.{first_entry, not_built}
 use Rattle.export_templates.specs.declared.readings.TemplateReading.{TemplateReading}
 

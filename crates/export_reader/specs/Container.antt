@@ -5,7 +5,7 @@ use Rattle.gtm_data.specs.Json.{json_of}
 use Rattle.export_entries.specs.Entries.{entries_of}
 use Rattle.export_entries.specs.declared.entries.WrittenEntries.{WrittenEntries}
 use Rattle.export_model.specs.declared.container.Container.{Container}
-use Rattle.export_numbers.specs.Container.{container_of}
+use Rattle.export_container.specs.Container.{container_of}
 use Rattle.export_reader.specs.Rules.{version_in}
 use Rattle.export_reader.specs.declared.loading.Loaded.{Loaded}
 use Rattle.export_templates.specs.Readings.{readings_of}

@@ -9,7 +9,7 @@ use Rattle.gtm_data.specs.Plain.{not_whole, too_deep}
 use Rattle.export_entries.specs.Entries.{entries_of}
 use Rattle.export_entries.specs.declared.entries.WrittenEntries.{WrittenEntries}
 use Rattle.export_model.specs.declared.container.Container.{Container}
-use Rattle.export_numbers.specs.Container.{container_of}
+use Rattle.export_container.specs.Container.{container_of}
 use Rattle.export_reader.specs.Rules.{too_large, not_json, other_format, version_in, no_version}
 use Rattle.export_reader.specs.Rules.{not_web, field_kind, duplicate_id, duplicate_name}
 use Rattle.export_reader.specs.Rules.{unknown_trigger, unknown_sequence_tag, unknown_template}

@@ -4,8 +4,7 @@ ghost use Rattle.export_reader.specs.Rules.{variable_cycle, group_cycle};
 ghost use Rattle.reference_cycles.specs.Graph.{HasNoCycle};
 
 use crate::paths::entry_path;
-use container_graphs::{group_graph, variable_graph};
-use export_model::Container;
+use export_model::{Container, group_graph, variable_graph};
 use gtm_base::{OutOfMemory, Text};
 use reference_cycles::first_on_cycle;
 use std::alloc::Global;

@@ -1,7 +1,7 @@
+use export_container::container_of;
 use export_entries::read_entries;
 use export_model::Container;
 use export_names::{known_of, type_texts};
-use export_numbers::container_of;
 use export_reader::{ExportEnd, read_export};
 use export_templates::read_templates;
 use gtm_base::{OutOfMemory, Text};

@@ -1,6 +1,0 @@
-use Rattle.std.proofs.Common.{◌≡◌, take, map}
-use Rattle.export_numbers.specs.BuiltIns.{built_in_of}
-use Rattle.export_numbers.proofs.built_ins.built_ins_of.Given as goal
-
-abbrev pub invariant-loop-built_in : goal.invariant-loop-built_in
-invariant-loop-built_in l = l.made ≡ map built_in_of (take l.built_in-index l.written)

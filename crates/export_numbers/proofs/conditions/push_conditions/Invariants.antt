@@ -1,7 +1,0 @@
-use Rattle.std.proofs.Common.{◌≡◌, ◌++◌, take, map}
-use Rattle.export_numbers.specs.Conditions.{condition_of}
-use Rattle.export_numbers.proofs.conditions.push_conditions.Given as goal
-
-abbrev pub invariant-loop-condition : goal.invariant-loop-condition
-invariant-loop-condition l =
-    l.made ≡ l.initial.made ++ map (condition_of l.names) (take l.condition-index l.written)

@@ -1,5 +1,0 @@
-use Rattle.export_numbers.proofs.EntriesInRange.{in_range}
-use Rattle.export_numbers.proofs.laws.every_number_is_in_range.Goals as goal
-
-pub returns : goal.returns
-returns c readings written read = in_range readings written read
