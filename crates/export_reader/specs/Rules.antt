@@ -37,9 +37,9 @@ is_two (Some number) = number == 2
 -- rule 5: its format is not the number 2
 abbrev pub other_format : json.Data → Option (List ℕ)
 other_format d =
-    if is_two (option_and_then as_u64
-    (option_and_then as_number (get (codes "exportFormatVersion") d))) then None else Some (in_key
-    (codes "exportFormatVersion") [])
+    let number = option_and_then as_number (get (codes "exportFormatVersion") d) in
+    if is_two (option_and_then as_u64 number) then None
+    else Some (in_key (codes "exportFormatVersion") [])
 
 -- the same value, where it is an object
 abbrev pub only_object : json.Data → Option json.Data
