@@ -134,6 +134,29 @@ const ROWS: &[Row] = &[
         says: "push 1\nend",
     },
     Row {
+        name: "texts with escapes, line after line",
+        trace: br#"{"push":"a\nb, and more"}
+{"push":"c"}
+{"push":"\t"}
+{"p\u0075sh":{"\u0061":"\u0062"}}"#,
+        says: "push \"a\\nb, and more\"\npush \"c\"\npush \"\\t\"\npush {\"a\":\"b\"}\nend",
+    },
+    Row {
+        name: "a repeated key between lines without one, and then a fraction",
+        trace: br#"{"push":1}
+{"push":{"a":1,"a":2}}
+{"push":{"b":[3]}}
+{"push":[4,0.5]}
+{"push":5}"#,
+        says: "push 1\npush {\"a\":2}\npush {\"b\":[3]}\nline 4 rule 3",
+    },
+    Row {
+        name: "half of an object behind good lines",
+        trace: br#"{"push":{"a":[1]}}
+{"push":{"a":[1}}"#,
+        says: "push {\"a\":[1]}\nline 2 rule 2",
+    },
+    Row {
         name: "a time, which is not run yet",
         trace: b"{\"push\":1}\n{\"time\":1}\n",
         says: "push 1\nline 2 rule 8",

@@ -1,11 +1,13 @@
 use gtm_base::{OutOfMemory, Text, Texts};
 use gtm_data::{Data, PageFact, json_text};
+use json::Scratch;
 use std::alloc::Global;
 use trace_forms::{LineRead, TraceStep, read_line};
 
 /// What a line says, as a text: `blank`, `bad` and the rule, or the step.
 pub fn told(alloc: Global, line: &[u8]) -> Result<Text, OutOfMemory> {
-    match read_line(alloc, line)? {
+    let mut scratch = Scratch::new(alloc);
+    match read_line(alloc, &mut scratch, line)? {
         LineRead::Blank => Text::from_str(alloc, "blank"),
         LineRead::Bad(rule) => numbered(alloc, "bad ", rule as u64),
         LineRead::Step(step) => step_text(alloc, &step),
