@@ -18,7 +18,8 @@ use Rattle.export_model.specs.declared.variables.VariableKind.TheVariants.{Regex
 use Rattle.export_model.specs.declared.variables.VariableKind.TheVariants.{Unknown}
 use Rattle.export_container.specs.Container.{container_of}
 use Rattle.export_container.specs.Templates.{templates_of}
-use Rattle.export_reader.specs.Rules.{first_entry, not_built}
+use Rattle.export_reader.specs.Rules.{not_built, in_version}
+use Rattle.export_checks.specs.NotBuilt.{first_entry, not_built as first_not_built}
 use Rattle.export_templates.specs.declared.readings.TemplateReading.{TemplateReading}
 
 no_place : (c : Container) → c.templates ≡ [] → (at : ℕ) → at < length c.templates → ⊥
@@ -62,8 +63,9 @@ empty : {A : Type 0} (key : List ℕ) (items : List A) → None ≡ first_entry 
 empty key [] is = refl
 empty key (x ∷ items) is = absurd cc
 
-no_templates : (written : WrittenEntries) → None ≡ not_built written → written.templates ≡ []
-unfolding not_built
+no_templates : (written : WrittenEntries) → None ≡ first_not_built written
+    → written.templates ≡ []
+unfolding first_not_built
 no_templates written is =
     let templates = first_entry (codes "customTemplate") written.templates in
     let built_ins = first_entry (codes "builtInVariable") written.built_ins in
@@ -76,6 +78,14 @@ no_templates written is =
     (none_first triggers (variables then built_ins then templates)
     (none_first tags (triggers then variables then built_ins then templates) is))))
 
+none_within : (found : Option (List ℕ)) → None ≡ in_version found → None ≡ found
+none_within None is = refl
+none_within (Some path) is = absurd cc
+
+found_none : (written : WrittenEntries) → None ≡ not_built written → None ≡ first_not_built written
+unfolding not_built
+found_none written is = none_within (first_not_built written) is
+
 of_none : (readings : List TemplateReading) → templates_of readings [] ≡ []
 of_none [] = refl
 of_none (reading ∷ readings) = refl
@@ -83,8 +93,8 @@ of_none (reading ∷ readings) = refl
 -- the container of entries that have nothing which is not built uses templates as what they are
 pub built_fits : (readings : List TemplateReading) (written : WrittenEntries) (c : Container)
     → c ≡ container_of readings written → InRange c → None ≡ not_built written → FitsTemplates c
-built_fits readings written c made there built =
+built_fits readings written c made there is_built =
     let none : c.templates ≡ [] =
     ap (λ container. container.templates) made
-    ∙ ap (templates_of readings) (no_templates written built) ∙ of_none readings in
+    ∙ ap (templates_of readings) (no_templates written (found_none written is_built)) ∙ of_none readings in
     fits c none there

@@ -6,18 +6,19 @@ use Rattle.std.specs.Option.{option_map_or}
 use Rattle.std.specs.Str.{bytes_eq, chars}
 use Rattle.serde_json.specs.Data as json
 use Rattle.serde_json.specs.Find.{get, as_number, as_u64, as_object, as_str}
-use Rattle.text_places.specs.Places.{first_repeat}
-use Rattle.export_fields.specs.Fault.{in_key, in_index, ◌then◌}
+use Rattle.export_fields.specs.Fault.{in_key, in_index}
 use Rattle.export_fields.specs.Words.{folded}
 use Rattle.export_entries.specs.Entries.{entries_fault}
 use Rattle.export_entries.specs.declared.entries.WrittenEntries.{WrittenEntries}
 use Rattle.export_model.specs.Graphs.{variable_graph, group_graph}
 use Rattle.export_model.specs.declared.container.Container.{Container}
 use Rattle.export_reader.specs.declared.top.TheConstants.{MAX_EXPORT}
-use Rattle.export_references.specs.Priorities as priorities
-use Rattle.export_references.specs.UnknownTags as tags
-use Rattle.export_references.specs.UnknownTriggers as triggers
-use Rattle.export_references.specs.UnknownTypes as types
+use Rattle.export_checks.specs.NotBuilt as built
+use Rattle.export_checks.specs.Priorities as priorities
+use Rattle.export_checks.specs.Repeats as repeats
+use Rattle.export_checks.specs.UnknownTags as tags
+use Rattle.export_checks.specs.UnknownTriggers as triggers
+use Rattle.export_checks.specs.UnknownTypes as types
 use Rattle.reference_cycles.specs.Closure.{first_cycle}
 
 -- rule 1: it has over `MAX_EXPORT` bytes
@@ -91,27 +92,17 @@ field_kind version = option_map (in_key (codes "containerVersion")) (entries_fau
 abbrev pub entry_path : List ℕ → ℕ → List ℕ
 entry_path key at = in_key (codes "containerVersion") (in_key key (in_index at []))
 
--- the path of the first entry of a list that has the text of an earlier one
-abbrev pub repeated : List ℕ → List (List ℕ) → Option (List ℕ)
-repeated key texts = option_map (entry_path key) (first_repeat texts)
-
--- rule 9: an entry has the id of an earlier one of its list
-unfoldable pub duplicate_id : WrittenEntries → Option (List ℕ)
-duplicate_id written =
-    repeated (codes "tag") (map (λ tag. tag.id) written.tags)
-    then repeated (codes "trigger") (map (λ trigger. trigger.id) written.triggers)
-    then repeated (codes "variable") (map (λ variable. variable.id) written.variables)
-    then repeated (codes "customTemplate") (map (λ template. template.id) written.templates)
-
--- rule 10: a tag has the name of an earlier one, or a variable that of an earlier one
-unfoldable pub duplicate_name : WrittenEntries → Option (List ℕ)
-duplicate_name written =
-    repeated (codes "tag") (map (λ tag. tag.name) written.tags)
-    then repeated (codes "variable") (map (λ variable. variable.name) written.variables)
-
 -- a path from the container version, as one from the top
 abbrev pub in_version : Option (List ℕ) → Option (List ℕ)
 in_version path = option_map (in_key (codes "containerVersion")) path
+
+-- rule 9: an entry has the id of an earlier one of its list
+unfoldable pub duplicate_id : WrittenEntries → Option (List ℕ)
+duplicate_id written = in_version (repeats.duplicate_id written)
+
+-- rule 10: a tag has the name of an earlier one, or a variable that of an earlier one
+unfoldable pub duplicate_name : WrittenEntries → Option (List ℕ)
+duplicate_name written = in_version (repeats.duplicate_name written)
 
 -- rule 11: the number of a trigger stands for none
 unfoldable pub unknown_trigger : WrittenEntries → Option (List ℕ)
@@ -137,16 +128,6 @@ group_cycle c = option_map (entry_path (codes "trigger")) (first_cycle (group_gr
 unfoldable pub priority_text : WrittenEntries → Option (List ℕ)
 priority_text written = in_version (priorities.priority_text written)
 
--- the path of the first of these entries
-abbrev pub first_entry : {A : Type 0} → List ℕ → List A → Option (List ℕ)
-first_entry key [] = None
-first_entry key (x ∷ xs) = Some (entry_path key 0)
-
 -- rule 29: there is an entry, of which none is run yet
 unfoldable pub not_built : WrittenEntries → Option (List ℕ)
-not_built written =
-    first_entry (codes "tag") written.tags
-    then first_entry (codes "trigger") written.triggers
-    then first_entry (codes "variable") written.variables
-    then first_entry (codes "builtInVariable") written.built_ins
-    then first_entry (codes "customTemplate") written.templates
+not_built written = in_version (built.not_built written)

@@ -10,14 +10,15 @@ ghost use Rattle.export_reader.specs.Rules as rules;
 
 use crate::cycles::{group_cycle, variable_cycle};
 use crate::loading::Loaded;
-use crate::not_built::not_built;
 use crate::paths::in_version;
-use crate::repeats::{duplicate_id, duplicate_name};
 use crate::top::ExportEnd;
+use export_checks::{
+    duplicate_id, duplicate_name, not_built, priority_text, unknown_sequence_tag, unknown_template,
+    unknown_trigger,
+};
 use export_container::container_of;
 use export_entries::WrittenEntries;
 use export_names::{Known, known_of, type_texts};
-use export_references::{priority_text, unknown_sequence_tag, unknown_template, unknown_trigger};
 use export_templates::TemplateReadings;
 use gtm_base::{OutOfMemory, Text};
 use std::alloc::Global;
@@ -35,10 +36,10 @@ pub fn judge_entries(
         (Some (loaded_of readings.now written.now)) }
     ensures sound { IfOk result (λ loaded. Sound loaded.container) }
 {
-    if let Some(path) = duplicate_id(alloc, written)? {
+    if let Some(path) = id_path(alloc, written)? {
         return Err(ExportEnd::Refused { rule: 9, path });
     }
-    if let Some(path) = duplicate_name(alloc, written)? {
+    if let Some(path) = name_path(alloc, written)? {
         return Err(ExportEnd::Refused { rule: 10, path });
     }
     let types = type_texts(alloc, &written.templates)?;
@@ -97,10 +98,28 @@ fn judge_container(
     if let Some(path) = priority_path(alloc, written)? {
         return Err(ExportEnd::Refused { rule: 18, path });
     }
-    if let Some(path) = not_built(alloc, written)? {
+    if let Some(path) = entry_not_built(alloc, written)? {
         return Err(ExportEnd::Refused { rule: 29, path });
     }
     Ok(Loaded { container })
+}
+
+// The path of the first id that stands twice.
+#[tactic(auto, unfolding(crate::specs::Rules::duplicate_id))]
+fn id_path(alloc: Global, written: &WrittenEntries) -> Result<Option<Text>, OutOfMemory>
+    ensures { IfOk result (λ path. path ≡ rules.duplicate_id written.now) }
+{
+    let path = duplicate_id(alloc, written)?;
+    in_version(alloc, &path)
+}
+
+// The path of the first name that stands twice.
+#[tactic(auto, unfolding(crate::specs::Rules::duplicate_name))]
+fn name_path(alloc: Global, written: &WrittenEntries) -> Result<Option<Text>, OutOfMemory>
+    ensures { IfOk result (λ path. path ≡ rules.duplicate_name written.now) }
+{
+    let path = duplicate_name(alloc, written)?;
+    in_version(alloc, &path)
 }
 
 // The path of the first number of a trigger that stands for none.
@@ -151,5 +170,14 @@ fn priority_path(alloc: Global, written: &WrittenEntries) -> Result<Option<Text>
     ensures { IfOk result (λ path. path ≡ rules.priority_text written.now) }
 {
     let path = priority_text(alloc, written)?;
+    in_version(alloc, &path)
+}
+
+// The path of the first entry that is not run yet.
+#[tactic(auto, unfolding(crate::specs::Rules::not_built))]
+fn entry_not_built(alloc: Global, written: &WrittenEntries) -> Result<Option<Text>, OutOfMemory>
+    ensures { IfOk result (λ path. path ≡ rules.not_built written.now) }
+{
+    let path = not_built(alloc, written)?;
     in_version(alloc, &path)
 }

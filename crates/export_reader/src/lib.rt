@@ -12,9 +12,7 @@ mod cycles;
 mod entries;
 mod laws;
 mod loading;
-mod not_built;
 mod paths;
-mod repeats;
 mod top;
 mod versions;
 

@@ -58,8 +58,12 @@ fn names_in_texts(rt: HostRuntime) -> Result<(), Fail> {
     let value = Text::from_str(alloc, "Value")?;
     let event = Text::from_str(alloc, "Event")?;
     let page = Text::from_str(alloc, "Page URL")?;
-    let variables = vec![in alloc; &value, &event]?;
-    let built_ins = vec![in alloc; &event, &page]?;
+    let mut variables = Vec::new(alloc);
+    variables.push(&value)?;
+    variables.push(&event)?;
+    let mut built_ins = Vec::new(alloc);
+    built_ins.push(&event)?;
+    built_ins.push(&page)?;
     let names = Names::of(alloc, variables, built_ins)?;
     for row in ROWS {
         let pieces = pieces_of(alloc, &names, row.text)?;

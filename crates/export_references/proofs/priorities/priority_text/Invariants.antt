@@ -1,8 +1,0 @@
-use Rattle.std.proofs.Common.{◌≡◌, drop}
-use Rattle.export_references.specs.FirstFault.{items_fault}
-use Rattle.export_references.specs.Priorities.{tag_fault}
-use Rattle.export_references.proofs.priorities.priority_text.Given as goal
-
-abbrev pub invariant-loop-at : goal.invariant-loop-at
-invariant-loop-at l =
-    items_fault tag_fault l.at (drop l.at l.tag-items) ≡ items_fault tag_fault 0 l.written.tags

@@ -1,9 +1,0 @@
-use Rattle.std.proofs.Common.{◌≡◌, drop}
-use Rattle.export_references.specs.FirstFault.{items_fault}
-use Rattle.export_references.specs.UnknownTypes.{type_fault}
-use Rattle.export_references.proofs.templates.in_tags.Given as goal
-
-abbrev pub invariant-loop-at : goal.invariant-loop-at
-invariant-loop-at l =
-    items_fault (λ tag. type_fault l.types tag.kind) l.at (drop l.at l.tag-items)
-    ≡ items_fault (λ tag. type_fault l.types tag.kind) 0 l.tags

@@ -1,9 +1,0 @@
-use Rattle.std.proofs.Common.{◌≡◌, drop}
-use Rattle.export_references.specs.FirstFault.{items_fault}
-use Rattle.export_references.specs.UnknownTypes.{type_fault}
-use Rattle.export_references.proofs.templates.in_variables.Given as goal
-
-abbrev pub invariant-loop-at : goal.invariant-loop-at
-invariant-loop-at l =
-    items_fault (λ variable. type_fault l.types variable.kind) l.at (drop l.at l.variable-items)
-    ≡ items_fault (λ variable. type_fault l.types variable.kind) 0 l.variables

@@ -1,7 +1,0 @@
-use Rattle.std.proofs.Common.{◌≡◌, drop}
-use Rattle.export_references.specs.UnknownTriggers.{first_list_fault}
-use Rattle.export_references.proofs.triggers.in_first_list.Given as goal
-
-abbrev pub invariant-loop-at : goal.invariant-loop-at
-invariant-loop-at l =
-    first_list_fault l.ids l.at (drop l.at l.param-items) ≡ first_list_fault l.ids 0 l.params

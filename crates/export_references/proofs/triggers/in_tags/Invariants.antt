@@ -1,9 +1,0 @@
-use Rattle.std.proofs.Common.{◌≡◌, drop}
-use Rattle.export_references.specs.FirstFault.{items_fault}
-use Rattle.export_references.specs.UnknownTriggers.{tag_fault}
-use Rattle.export_references.proofs.triggers.in_tags.Given as goal
-
-abbrev pub invariant-loop-at : goal.invariant-loop-at
-invariant-loop-at l =
-    items_fault (tag_fault l.ids) l.at (drop l.at l.tag-items)
-    ≡ items_fault (tag_fault l.ids) 0 l.tags
