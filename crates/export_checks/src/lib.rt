@@ -1,11 +1,11 @@
 //! The rules of an export over its entries as they are written.
 //!
 //! `duplicate_id` and `duplicate_name` look for what stands twice; `unknown_trigger`,
-//! `unknown_sequence_tag` and `unknown_template` for a reference that leads nowhere; `priority_text`
-//! for a priority that is no whole number; and `not_built` for an entry that is not run yet. Each
-//! tells exactly the path of the first one, from the container version, or `None` where there is
-//! none, and only memory can be wanting. A law says that the path goes to the first item of a list
-//! that has a fault. Each takes about n log n time.
+//! `unknown_sequence_tag` and `unknown_template` for a reference that leads nowhere;
+//! `priority_text` for a priority that is no whole number; and `not_built` for an entry that is not
+//! run yet. Each tells exactly the path of the first one, from the container version, or `None`
+//! where there is none, and only memory can be wanting. A law says that the path goes to the first
+//! item of a list that has a fault. Each takes about n log n time.
 #![tactic(auto)]
 
 mod laws;

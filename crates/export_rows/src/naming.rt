@@ -1,8 +1,12 @@
+ghost use Rattle.std.specs.Prelude.{◌<◌, ◌^◌, length};
+
 use crate::judging::{container_in, with_version};
 use crate::model::is_literal;
 use export_model::{NameRef, ParamValue, Piece, Pieces};
+use export_names::{ByName, texts_of};
 use export_params::{Names, pieces_of};
-use gtm_base::Text;
+use gtm_base::{OutOfMemory, Text, Texts};
+use std::alloc::Global;
 use std::test::Fail;
 
 // A piece that is to be.
@@ -55,21 +59,33 @@ const ROWS: &[Row] = &[
 #[test]
 fn names_in_texts(rt: HostRuntime) -> Result<(), Fail> {
     let alloc = rt.alloc();
-    let value = Text::from_str(alloc, "Value")?;
-    let event = Text::from_str(alloc, "Event")?;
-    let page = Text::from_str(alloc, "Page URL")?;
-    let mut variables = Vec::new(alloc);
-    variables.push(&value)?;
-    variables.push(&event)?;
-    let mut built_ins = Vec::new(alloc);
-    built_ins.push(&event)?;
-    built_ins.push(&page)?;
-    let names = Names::of(alloc, variables, built_ins)?;
+    let mut variables = Texts::new(alloc);
+    variables.push(Text::from_str(alloc, "Value")?)?;
+    variables.push(Text::from_str(alloc, "Event")?)?;
+    let mut built_ins = Texts::new(alloc);
+    built_ins.push(Text::from_str(alloc, "Event")?)?;
+    built_ins.push(Text::from_str(alloc, "Page URL")?)?;
+    let names = names_of(alloc, &variables, &built_ins)?;
     for row in ROWS {
         let pieces = pieces_of(alloc, &names, row.text)?;
         assert!(rt; are_pieces(&pieces, row.pieces), "{}", row.text);
     }
     Ok(())
+}
+
+// The names of these variables and of these built-in variables.
+fn names_of<'a>(
+    alloc: Global,
+    variables: &'a Texts,
+    built_ins: &'a Texts,
+) -> Result<Names<'a>, OutOfMemory>
+    requires variables { length variables.now < 2 ^ 32 }
+    requires built_ins { length built_ins.now < 2 ^ 32 }
+{
+    let first = texts_of::<ByName, Text>(alloc, variables.as_slice())?;
+    let second = texts_of::<ByName, Text>(alloc, built_ins.as_slice())?;
+    let names = Names::of(alloc, first, second)?;
+    Ok(names)
 }
 
 // Whether they are these pieces, in their order.
