@@ -1,0 +1,16 @@
+//! The fields of a custom template.
+//!
+//! `read_fields` tells from INFO whether a template is one of tags or of variables, and gives its
+//! fields from its parameters, those below an object directly behind it, of two with one name the
+//! first. It refuses INFO, and then the parameters, exactly where they have not the form.
+//! `fields_of` gives, of resolved parameters, exactly the members whose keys are fields, in the
+//! order of the fields. Otherwise only memory can be wanting.
+#![tactic(auto)]
+
+mod choosing;
+mod fields;
+mod firsts;
+mod forms;
+
+pub use choosing::fields_of;
+pub use fields::{FieldsEnd, read_fields};
