@@ -56,7 +56,8 @@ address_pattern text = pattern_behind (behind (codes "https://") text)
 abbrev pub before_last_star : List ℕ → Option (List ℕ)
 before_last_star [] = None
 before_last_star (c ∷ cs) =
-    if c == 42 && is_nothing cs then Some [] else option_map (λ front. c ∷ front) (before_last_star cs)
+    if c == 42 && is_nothing cs then Some []
+    else option_map (λ front. c ∷ front) (before_last_star cs)
 
 abbrev pub prefix_or_equal : Option (List ℕ) → List ℕ → KeyPattern
 prefix_or_equal None text = Equal text

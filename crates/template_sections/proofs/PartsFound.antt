@@ -1,5 +1,6 @@
 -- The parts of a list of lines: there are some, and they are the only ones.
-use Rattle.std.proofs.Common.{◌≡◌, ◌∙◌, ℕ, ◌+◌, ◌&&◌, List, [], ◌∷◌, ◌++◌, length, Bool, true, false}
+use Rattle.std.proofs.Common.{◌≡◌, ◌∙◌, ℕ, ◌+◌, ◌&&◌, List, [], ◌∷◌, ◌++◌, length, Bool, true}
+use Rattle.std.proofs.Common.{false}
 use Rattle.std.proofs.Common.{Option, Some, None, refl, sym, ap, add_assoc, zero-add, add-zero}
 use Rattle.std.specs.Prelude.{Result}
 use Rattle.std.specs.List.{list_all}

@@ -32,7 +32,8 @@ span_of name whole (h ∷ hs) =
     if bytes_eq h.name name then Some (record { from = h.from; to = next_at whole hs })
     else span_of name whole hs
 
--- the sections, where the two that have to be there are, and no text stands before the first heading
+-- the sections, where the two that have to be there are, and no text stands before the first
+-- heading
 abbrev pub with_both : Option Span → Option Span → ℕ → ℕ → List Heading →
     Result Sections SectionEnd
 with_both None script whole visible hs = Err Missing

@@ -1,4 +1,5 @@
-ghost use Rattle.std.specs.Prelude.{◌≡◌, ◌≢◌, ◌≤◌, ◌+◌, ℕ, List, length, drop, map, IfOk, IsTrue, Err};
+ghost use Rattle.std.specs.Prelude.{◌≡◌, ◌≢◌, ◌≤◌, ◌+◌, ℕ, List, length, drop, map, IfOk};
+ghost use Rattle.std.specs.Prelude.{IsTrue, Err};
 ghost use Rattle.gtm_base.specs.Ascii.{is_all_ascii};
 ghost use Rattle.template_sections.specs.Cut.{IsCut, span_of, next_at, repeated, outcome};
 ghost use Rattle.template_sections.specs.Cut.{by_repeat, sections_in, visible_place};
