@@ -13,7 +13,8 @@ find_passes test [] found is = cc
 find_passes {X} test (x ∷ xs) found is =
     elim (test x) as
     (λ b. test x ≡ b → cond b (Some x) (find test xs) ≡ Some found → test found ≡ true) [
-      | true ↦ λ passes is. let same : x ≡ found = cc in subst (λ (y : X). test y ≡ true) same passes
+      | true ↦ λ passes is.
+          let same : x ≡ found = cc in subst (λ (y : X). test y ≡ true) same passes
       | false ↦ λ fails is. find_passes test xs found is
     ] refl is
 

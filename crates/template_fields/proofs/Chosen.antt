@@ -105,7 +105,8 @@ pub found_value : (name : List ℕ) (pairs : List (List ℕ × Data)) (o : Optio
     → o ≡ place_of name (map (λ p. p.0) pairs)
     → value_found (map (on_value tree_of) pairs) o ≡ member name (entries_of pairs)
 found_value name pairs o is =
-    ap (value_found (map (on_value tree_of) pairs)) (is ∙ ap (place_of name) (sym (keys_kept pairs)))
+    ap (value_found (map (on_value tree_of) pairs))
+    (is ∙ ap (place_of name) (sym (keys_kept pairs)))
     ∙ member_at name (map (on_value tree_of) pairs)
 
 -- what a field adds

@@ -1,4 +1,5 @@
-ghost use Rattle.std.specs.Prelude.{◌≡◌, map, IfOk, option_map};
+ghost use Rattle.std.specs.Prelude.{◌≡◌, ◌++◌, ◌∷◌, [], false, map, IfOk, OnOk, option_map};
+ghost use Rattle.gtm_base.specs.Keys.{has_key};
 ghost use Rattle.gtm_base.specs.KeysStay.{on_value};
 ghost use Rattle.gtm_data.specs.Paths.{member};
 ghost use Rattle.gtm_data.specs.Tree.{tree_of, entries_of, object, entries};
@@ -35,12 +36,20 @@ fn chosen(alloc: Global, fields: &[FieldName], members: &Members) -> Result<Memb
     for (at, field) in fields.iter().enumerate() {
         if is_place(at, names.place(field.name.as_str())) {
             if let Some(value) = value_at(members, keys.place(field.name.as_str())) {
-                let value = copy(alloc, value)?;
-                made.push(field.name.copy(alloc)?, value)?;
+                put_copy(alloc, &mut made, &field.name, value)?;
             }
         }
     }
     Ok(made)
+}
+
+// Puts a copy of a pair behind the last.
+fn put_copy(alloc: Global, made: &mut Members, name: &Text, value: &Data) -> Result<(), OutOfMemory>
+    requires { has_key name.now made.old.pairs ≡ false }
+    ensures { OnOk result (made.new.pairs ≡ made.old.pairs ++ (name.now, value.now) ∷ []) }
+{
+    let name = name.copy(alloc)?;
+    made.push(name, copy(alloc, value)?)
 }
 
 fn keys_of(alloc: Global, members: &Members) -> Result<Vec<&Text>, OutOfMemory>

@@ -11,7 +11,9 @@ returns-in-Some c =
     let digits : chars c.format.result.now ≡ decimal c.in-Some.port =
     chars-IsAscii c.format.result.now c.format.ensures.ascii ∙ c.format.ensures.text in
     c.fits_authority.ensures
-    ∙ ap (λ t. authority_fits c.args.pattern.now (chars c.text_or_nothing-host.result.now ++ 58 ∷ t))
+    ∙ ap
+    (λ t. authority_fits c.args.pattern.now
+    (chars c.text_or_nothing-host.result.now ++ 58 ∷ t))
     digits
     ∙ ap (λ t. authority_fits c.args.pattern.now (t ++ 58 ∷ decimal c.in-Some.port))
     c.text_or_nothing-host.ensures

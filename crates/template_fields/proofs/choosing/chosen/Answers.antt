@@ -1,5 +1,5 @@
-use Rattle.std.proofs.Common.{◌≡◌, ◌∙◌, ◌++◌, ◌<◌, length, map, ap, sym, arith, append-nil, true, false}
-use Rattle.std.proofs.Common.{Some, None, [], ◌∷◌, ◌+◌, subst}
+use Rattle.std.proofs.Common.{◌≡◌, ◌∙◌, ◌++◌, ◌<◌, length, map, ap, sym, arith, append-nil, true}
+use Rattle.std.proofs.Common.{false, Some, None, [], ◌∷◌, ◌+◌, subst}
 use Rattle.gtm_base.specs.KeysStay.{on_value}
 use Rattle.gtm_data.specs.Paths.{member}
 use Rattle.gtm_data.specs.Tree.{tree_of, entries_of}
@@ -9,7 +9,8 @@ use Rattle.template_fields.proofs.Chosen.{one_field, adds_value, adds_none, adds
 use Rattle.template_fields.proofs.Chosen.{found_value, mapped_push, one_earlier, more_earlier}
 use Rattle.template_fields.proofs.Chosen.{place_is, AreEarlier}
 use Rattle.template_fields.proofs.choosing.chosen.Goals as goal
-use Rattle.template_fields.proofs.choosing.chosen.Goals.{then-is_place+in-Some+in_ok-value+in_ok-copy+in_ok-push, then-is_place+in_default, else-is_place}
+use Rattle.template_fields.proofs.choosing.chosen.Goals.{then-is_place+in-Some+in_ok-put_copy}
+use Rattle.template_fields.proofs.choosing.chosen.Goals.{then-is_place+in_default, else-is_place}
 
 pub loop-at-preserved : goal.loop-at-preserved
 loop-at-preserved c =
@@ -32,7 +33,7 @@ loop-at-preserved c =
     ∙ c.in_ok-keys.ensures in
     let old = c.loop-at.made.pairs in
     elim c.if-is_place.branch [
-      | then-is_place+in-Some+in_ok-value+in_ok-copy+in_ok-push w ↦
+      | then-is_place+in-Some+in_ok-put_copy w ↦
           let here : is_place at (place_of f.name (names_of fields)) ≡ true =
           sym tested ∙ w.if-is_place.true in
           let there =
@@ -44,9 +45,7 @@ loop-at-preserved c =
           sym (w.in-Some.ensures
           ∙ found_value f.name c.args.members.now.pairs w.place-then-is_place.result there) in
           let pairs : c.if-is_place.made.pairs ≡ old ++ (f.name, value) ∷ [] =
-          ap (λ m. m.pairs) w.made-is ∙ w.in_ok-push.ensures.ok
-          ∙ ap (λ n. old ++ (n, w.in_ok-value.value) ∷ []) w.in_ok-copy.ensures
-          ∙ ap (λ v. old ++ (f.name, v) ∷ []) w.in_ok-value.ensures in
+          ap (λ m. m.pairs) w.made-is ∙ w.in_ok-put_copy.ensures in
           record {
             same =
                 one_field fields at f es (map (on_value tree_of) old) _ _ _ within
