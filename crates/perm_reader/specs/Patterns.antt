@@ -1,8 +1,9 @@
 -- The patterns of addresses and keys, as they are written.
-use Rattle.std.specs.Prelude.{ℕ, ◌==◌, ◌&&◌, ◌||◌, not, if◌then◌else◌, List, [], ◌∷◌, Bool, Option}
-use Rattle.std.specs.Prelude.{Some, None, option_map, codes}
+use Rattle.std.specs.Prelude.{◌≡◌, ℕ, ◌==◌, ◌&&◌, ◌||◌, not, if◌then◌else◌, List, [], ◌∷◌, ◌++◌}
+use Rattle.std.specs.Prelude.{Bool, true, false, Option, Some, None, option_map, codes}
 use Rattle.std.specs.List.{list_any}
 use Rattle.std.specs.Str.{bytes_eq}
+use Rattle.perm_model.specs.Addresses.{text_or_nothing}
 use Rattle.perm_model.specs.Texts.{is_nothing}
 use Rattle.perm_model.specs.declared.grants.AddressPattern.{AddressPattern}
 use Rattle.perm_model.specs.declared.grants.AddressPattern.TheVariants.{Pattern}
@@ -51,6 +52,18 @@ pattern_behind (Some rest) =
 -- `https://`, an authority and an optional path
 abbrev pub address_pattern : List ℕ → Option AddressPattern
 address_pattern text = pattern_behind (behind (codes "https://") text)
+
+-- a path begins with a slash, where there is one
+abbrev pub BeginsWithSlash : Option (List ℕ) → Type 0
+BeginsWithSlash None = Unit {0}
+BeginsWithSlash (Some path) = (rest : List ℕ) × (path ≡ 47 ∷ rest)
+
+-- the same said of the whole text
+pub record IsAddressPattern (text authority : List ℕ) (path : Option (List ℕ)) : Type 0 where
+  pub split : text ≡ codes "https://" ++ (authority ++ text_or_nothing path)
+  pub host : is_authority authority ≡ true
+  pub one_part : list_any (λ c. c == 47) authority ≡ false
+  pub rest : BeginsWithSlash path
 
 -- what stands before a `*` that is the last character
 abbrev pub before_last_star : List ℕ → Option (List ℕ)
