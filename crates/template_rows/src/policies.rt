@@ -7,36 +7,41 @@ use std::test::Fail;
 
 // Permissions, with their grants in order and, each behind `!`, their warnings.
 const ROWS: &[(&str, &str)] = &[
-    (LOGGING, r#"logging; title; character set"#),
-    (GLOBALS, r#"global dataLayer rw; global fbq x"#),
+    (LOGGING, "logging; title; character set"),
+    (GLOBALS, "global dataLayer rw; global fbq x"),
     (
         CONSENT,
-        r#"consent ad_storage r; consent analytics_storage rw; container data"#,
+        "consent ad_storage r; consent analytics_storage rw; container data",
     ),
-    (COOKIES, r#"cookie _ga; cookie _gid; cookie write _x * *"#),
+    (COOKIES, "cookie _ga; cookie _gid; cookie write _x * *"),
     (
         URLS,
-        r#"url host path query keys gclid utm_source; referrer any queries any"#,
+        "url host path query keys gclid utm_source; referrer any queries any",
     ),
     (
         PIXELS,
-        r#"pixel px.example.com /*; pixel *.Example.com; pixel * /p; script cdn.example.com /lib.js; iframe f.example:8443 /! http://a.example/"#,
+        "pixel px.example.com /*; pixel *.Example.com; pixel * /p; \
+         script cdn.example.com /lib.js; iframe f.example:8443 /! http://a.example/",
     ),
     (
         LAYER,
-        r#"layer read ecommerce. and on; layer read = event; layer read  and on; layer read = a*b; layer write = user.id; layer write cart and on"#,
+        "layer read ecommerce. and on; layer read = event; layer read  and on; \
+         layer read = a*b; layer write = user.id; layer write cart and on",
     ),
     (
         STORAGE,
-        r#"local seen rw; local old r; template storage; event metadata"#,
+        "local seen rw; local old r; template storage; event metadata",
     ),
     (
         ANY,
-        r#"any cookie; pixel any; layer read any; url any queries any"#,
+        "any cookie; pixel any; layer read any; url any queries any",
     ),
     (
         UNKNOWN,
-        r#"url host keys q! process_xml! some! {"mapKey":[{"string":"key","type":1},{"string":"read","type":1}],"mapValue":[{"string":"k","type":1}],"type":3}! {"boolean":true,"type":8}! https://a*.example/! most"#,
+        "url host keys q! process_xml! some! \
+         {\"mapKey\":[{\"string\":\"key\",\"type\":1},{\"string\":\"read\",\"type\":1}],\
+         \"mapValue\":[{\"string\":\"k\",\"type\":1}],\"type\":3}! \
+         {\"boolean\":true,\"type\":8}! https://a*.example/! most",
     ),
 ];
 
