@@ -29,9 +29,9 @@ fn chosen(alloc: Global, fields: &[FieldName], members: &Members) -> Result<Memb
         ≡ chosen (names_of fields.now) 0 fields.now (entries_of members.now.pairs)) }
 {
     let names = names_of(alloc, fields)?;
-    let names = Places::of(alloc, names.as_slice())?;
+    let names = Places::of(alloc, names)?;
     let keys = keys_of(alloc, members)?;
-    let keys = Places::of(alloc, keys.as_slice())?;
+    let keys = Places::of(alloc, keys)?;
     let mut made = Members::new(alloc);
     for (at, field) in fields.iter().enumerate() {
         if is_place(at, names.place(field.name.as_str())) {

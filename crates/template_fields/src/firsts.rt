@@ -14,7 +14,7 @@ pub(crate) fn distinct_fields(
     ensures { IfOk result (λ made. made ≡ distinct_fields fields.now) }
 {
     let names = names_of(alloc, fields)?;
-    let places = Places::of(alloc, names.as_slice())?;
+    let places = Places::of(alloc, names)?;
     let mut made = FieldNames::new(alloc);
     for (at, field) in fields.iter().enumerate() {
         if is_place(at, places.place(field.name.as_str())) {

@@ -20,8 +20,7 @@ loop-at-preserved c =
     let es = entries_of c.args.members.now.pairs in
     let within : at < length fields = omega arith in
     let names : c.in_ok-names-2.names ≡ names_of fields =
-    c.in_ok-names-2.ensures ∙ ap (map (λ t. t.now)) c.as_slice.ensures.value
-    ∙ c.in_ok-names.ensures in
+    c.in_ok-names-2.ensures ∙ c.in_ok-names.ensures in
     let place : c.place.result ≡ place_of f.name (names_of fields) =
     c.place.ensures.computed
     ∙ ap (λ n. place_of n c.in_ok-names-2.names) c.as_str.ensures.chars
@@ -29,8 +28,7 @@ loop-at-preserved c =
     let tested : c.is_place.result ≡ is_place at (place_of f.name (names_of fields)) =
     c.is_place.ensures ∙ ap (is_place at) place in
     let keys : c.in_ok-keys-2.keys ≡ map (λ p. p.0) c.args.members.now.pairs =
-    c.in_ok-keys-2.ensures ∙ ap (map (λ t. t.now)) c.as_slice-2.ensures.value
-    ∙ c.in_ok-keys.ensures in
+    c.in_ok-keys-2.ensures ∙ c.in_ok-keys.ensures in
     let old = c.loop-at.made.pairs in
     elim c.if-is_place.branch [
       | then-is_place+in-Some+in_ok-put_copy w ↦
