@@ -1,6 +1,6 @@
 -- What an end of the engine is as a failure.
 use Rattle.std.proofs.Common.{◌≡◌, ◌∙◌, ap, refl, subst, sym, ℕ, List}
-use Rattle.std.specs.Prelude.{false, Option, Some, None, Result, Err}
+use Rattle.std.specs.Prelude.{false, Option, Some, None, Result, Ok, Err, IfErr}
 use Rattle.gtm_base.specs.Causes.{has_failed}
 use Rattle.gtm_base.specs.Outside.{ReadSome, followed_by}
 use Rattle.gtm_cli.specs.Failures.{failure_of_run, failure_of_trace, is_out_fault, is_trace_fault}
@@ -56,6 +56,13 @@ no_out_fault : (end : TraceEnd) → is_out_fault (failure_of_trace end) ≡ fals
 no_out_fault trace.OutOfMemory = refl
 no_out_fault trace.ReadFault = refl
 no_out_fault (trace.Refused line rule) = refl
+
+-- an answer that tells no fault of the files
+pub not_failed : {T : Type 0} (result : Result T RunFailure)
+    → IfErr result (λ failure. is_trace_fault failure ≡ false)
+    → has_failed is_trace_fault result ≡ false
+not_failed (Ok value) never = refl
+not_failed (Err failure) never = never
 
 -- the bytes that are left of a file that was read on are told where they were
 pub record IsTold (new : Option (List ℕ)) : Type 0 where

@@ -1,4 +1,8 @@
-use Rattle.std.proofs.Common.{◌∙◌, sym, refl}
+use Rattle.std.proofs.Common.{◌∙◌, ap, sym, refl}
+use Rattle.gtm_base.specs.Causes.{has_failed}
+use Rattle.gtm_base.proofs.ReadPieces.{reads_as}
+use Rattle.gtm_cli.specs.Failures.{is_trace_fault}
+use Rattle.gtm_cli.proofs.Failing.{not_failed}
 use Rattle.replay_engine.specs.EngineState.{state_at}
 use Rattle.replay_engine.proofs.JobTurns.{error_is}
 use Rattle.gtm_cli.proofs.OpenRuns.{begun, closed, steps_failed, unbegun}
@@ -27,3 +31,14 @@ returns-clause-runs g c = λ bytes left is told.
     (begun _ _ c.args.container c.in_ok-engine.engine c.in_ok-engine.ensures.out) refl
     (c.in_ok-run_steps.ensures.runs bytes left is told) c.close.ensures.out
     c.close.ensures.fault c.close.ensures.ends
+
+pub returns-in_err-run_steps-clause-files : goal.returns-in_err-run_steps-clause-files
+returns-in_err-run_steps-clause-files g c =
+    reads_as is_trace_fault _ is_trace_fault _ _ _
+    (ap (has_failed is_trace_fault) (error_is _ _ c.from_residual-in_err-run_steps.ensures.1))
+    c.in_err-run_steps.ensures.files
+
+pub returns-clause-files : goal.returns-clause-files
+returns-clause-files g c =
+    reads_as is_trace_fault _ is_trace_fault c.close.result _ _
+    (not_failed c.close.result c.close.ensures.fault) c.in_ok-run_steps.ensures.files
