@@ -1,6 +1,8 @@
 //! Replays a trace over a container export, and prints the run.
 #![tactic(auto)]
 
+ghost use Rattle.std.specs.Prelude.{◌≡◌, IfOk};
+
 use gtm_base::{DiskFiles, OutOfMemory, OutSink, Status, put};
 use gtm_cli::replay;
 use std::env;
@@ -13,26 +15,47 @@ fn main(rt: HostRuntime) -> ExitCode {
 }
 
 fn status(rt: HostRuntime) -> Status {
-    let alloc = rt.alloc();
-    let sinks = (
-        OutSink::stdout(alloc, rt.stdout()),
-        OutSink::stderr(alloc, rt.stderr()),
-    );
-    match (sinks, words(&rt)) {
-        ((Ok(out), Ok(err)), Ok(words)) => run(rt, words.as_slice(), out, err),
-        _ => {
+    match begin(&rt) {
+        Ok(begun) => run(rt, begun),
+        Err(OutOfMemory) => {
             let _ = eprintln!(rt; "gtm_replay: out of memory");
             Status::OutOfMemory
         },
     }
 }
 
-// Runs the command, and hands on what the sinks keep. A run whose last bytes can't be written is not
-// done.
-fn run(rt: HostRuntime, words: &[String], mut out: OutSink, mut err: OutSink) -> Status {
+// What a run begins with.
+#[derive(Drop)]
+struct Begun {
+    words: Vec<String>,
+    out: OutSink,
+    err: OutSink,
+}
+
+fn begin(rt: &HostRuntime) -> Result<Begun, OutOfMemory>
+    ensures out { IfOk result (λ begun. begun.out.faults ≡ 0) }
+    ensures err { IfOk result (λ begun. begun.err.faults ≡ 0) }
+{
+    let words = words(rt)?;
+    let out = OutSink::stdout(rt.alloc(), rt.stdout())?;
+    let err = OutSink::stderr(rt.alloc(), rt.stderr())?;
+    Ok(Begun { words, out, err })
+}
+
+// Runs the command, and hands on what the sinks keep. A run whose last bytes can't be written is
+// not done.
+fn run(rt: HostRuntime, begun: Begun) -> Status
+    requires out { begun.out.faults ≡ 0 }
+    requires err { begun.err.faults ≡ 0 }
+{
     let alloc = rt.alloc();
+    let Begun {
+        words,
+        mut out,
+        mut err,
+    } = begun;
     let mut files = DiskFiles::new(alloc, rt);
-    let mut status = replay(alloc, words, &mut files, &mut out, &mut err);
+    let mut status = replay(alloc, words.as_slice(), &mut files, &mut out, &mut err);
     let finished = out.finish();
     if matches!(status, Status::Done) && finished.is_err() {
         let _ = put(&mut err, b"gtm_replay: cannot write\n");
