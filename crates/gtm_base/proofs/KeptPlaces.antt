@@ -1,13 +1,13 @@
 -- The places of keys: how they stand in a map, and what is found among them.
 use Rattle.std.proofs.Common.{◌≡◌, ◌∙◌, ap, sym, refl, ℕ, suc, ◌+◌, List, [], ◌∷◌, ◌++◌, length}
-use Rattle.std.proofs.Common.{Bool, true, false, cond, map, not, ◌&&◌, ◌||◌, arith, true≢false}
+use Rattle.std.proofs.Common.{Bool, true, false, cond, map, not, ◌||◌, arith, true≢false}
 use Rattle.std.proofs.Common.{Ordering, Less, Equal, Greater, ◌<◌, ◌≤◌, get_or, take}
 use Rattle.std.proofs.lemmas.List.{length-take-le}
 use Rattle.std.proofs.Math.Seq.{take-length, take-suc}
 use Rattle.std.proofs.lemmas.Bool.Decides.{nat_tests}
 use Rattle.std.specs.Prelude.{Option, Some, None, option_map, encode_utf8_all, if◌then◌else◌}
 use Rattle.std.specs.Prelude.{String, string_bytes, nat_lt, option_and_then, IfSome, IfNone, insert}
-use Rattle.std.specs.BTreeMap.{BTreeMap, get_by, insert_entry, is_at}
+use Rattle.std.specs.BTreeMap.{insert_entry}
 use Rattle.std.specs.Cmp.Lexicographic.{slice_cmp}
 use Rattle.std.specs.Map.{lookup}
 use Rattle.std.specs.Ordering.{is_eq, nat_cmp, match_ordering}
@@ -16,7 +16,7 @@ use Rattle.std.specs.declared.alloc.Global.{Global}
 use Rattle.std.proofs.lemmas.Map.Lookups.{exact_bytes}
 use Rattle.std.proofs.lemmas.Map.Text.{is_eq-slice_cmp}
 use Rattle.std.proofs.lemmas.Slice.Eq.{bytes_eq-Decides}
-use Rattle.gtm_base.specs.KeyPlaces.{Places, kept_place, with_place, with_places, places_in}
+use Rattle.gtm_base.specs.KeyPlaces.{Places, kept_place, with_place, with_places}
 use Rattle.gtm_base.specs.KeyPlaces.{places_of}
 use Rattle.gtm_base.specs.declared.key_places.TheConstants.{MAX_SCANNED}
 use Rattle.gtm_base.specs.Keys.{has_key, distinct_keys, place_of}

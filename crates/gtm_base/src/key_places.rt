@@ -16,7 +16,7 @@ pub const MAX_SCANNED: usize = 64;
 #[derive(Debug, Drop)]
 pub struct KeyPlaces {
     alloc: Global,
-    places: Option<BTreeMap<String, usize>>,
+    places: Option<Box<BTreeMap<String, usize>>>,
 }
 
 impl Model for KeyPlaces {
@@ -25,7 +25,7 @@ impl Model for KeyPlaces {
 
     ghost Value = { Option Places };
 
-    ghost view = { λ kept. option_map places_in kept.places };
+    ghost view = { λ kept. option_map (λ tree. places_in tree.value) kept.places };
 }
 
 impl KeyPlaces {
@@ -62,7 +62,8 @@ impl KeyPlaces {
             Some(places) => put(self.alloc, places, &pairs[last].0, last),
             None => {
                 if last == MAX_SCANNED {
-                    self.places = Some(all_places(self.alloc, pairs)?);
+                    let places = all_places(self.alloc, pairs)?;
+                    self.places = Some(Box::new(self.alloc, places)?);
                 }
                 Ok(())
             },

@@ -122,8 +122,8 @@ impl<T: Drop> Keyed<T> {
     }
 }
 
-// Puts a pair behind the last, and keeps its place where there are many. Where memory is wanting, the
-// pair is dropped and all stays as it was.
+// Puts a pair behind the last, and keeps its place where there are many. Where memory is wanting,
+// the pair is dropped and all stays as it was.
 fn push_pair<T: Drop>(
     pairs: &mut ListOf<(Text, T)>,
     places: &mut KeyPlaces,

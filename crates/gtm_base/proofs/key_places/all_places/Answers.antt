@@ -1,4 +1,4 @@
-use Rattle.std.proofs.Common.{◌≡◌, ◌∙◌, ◌<◌, ap, sym, length, arith}
+use Rattle.std.proofs.Common.{◌∙◌, ◌<◌, ap, sym, length}
 use Rattle.gtm_base.specs.KeyPlaces.{with_place}
 use Rattle.gtm_base.proofs.KeptPlaces.{with_places-more}
 use Rattle.gtm_base.proofs.key_places.all_places.Goals as goal

@@ -1,4 +1,4 @@
-use Rattle.std.proofs.Common.{◌≡◌, Some, [], take}
+use Rattle.std.proofs.Common.{◌≡◌, [], take}
 use Rattle.gtm_base.specs.KeyPlaces.{places_in, with_places}
 use Rattle.gtm_base.proofs.key_places.all_places.Given as goal
 

@@ -1,5 +1,4 @@
-use Rattle.std.proofs.Common.{◌≡◌, ◌∙◌, ap, map}
-use Rattle.std.specs.Prelude.{string_bytes}
+use Rattle.std.proofs.Common.{◌∙◌, ap, map}
 use Rattle.gtm_base.specs.KeyPlaces.{places_in}
 use Rattle.gtm_base.proofs.KeptPlaces.{in_bytes, put_in_bytes, put_bytes}
 use Rattle.gtm_base.proofs.key_places.put.Goals as goal

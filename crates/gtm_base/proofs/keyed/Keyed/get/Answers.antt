@@ -1,4 +1,4 @@
-use Rattle.std.proofs.Common.{◌≡◌, ◌∙◌, ap, sym, slice_get, Some}
+use Rattle.std.proofs.Common.{◌∙◌, ap, sym, slice_get, Some}
 use Rattle.std.proofs.lemmas.Option.{get_or_from_slice_get}
 use Rattle.std.specs.Str.{chars}
 use Rattle.gtm_base.proofs.Lookups.{found_at, value_of-absent}

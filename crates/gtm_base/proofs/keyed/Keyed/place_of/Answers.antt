@@ -1,4 +1,4 @@
-use Rattle.std.proofs.Common.{◌≡◌, ◌∙◌, ◌<◌, ap, sym, length, arith}
+use Rattle.std.proofs.Common.{◌∙◌, ◌<◌, ap, sym, length, arith}
 use Rattle.std.specs.Prelude.{option_and_then}
 use Rattle.std.specs.Str.{chars}
 use Rattle.gtm_base.specs.KeyPlaces.{kept_place}
