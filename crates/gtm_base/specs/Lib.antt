@@ -2,6 +2,7 @@ pub mod formers
 pub mod Ascii
 pub mod Causes
 pub mod Disk
+pub mod Engines
 pub mod FileFault
 pub mod KeyPlaces
 pub mod Keys

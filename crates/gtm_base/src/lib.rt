@@ -4,13 +4,16 @@
 //! pairs of a `Keyed` have the same key. `Files` and `Sink` say what a call read, took and opened,
 //! where this is told, and that a call fails only with a rise of its count; `put` and `read_whole`
 //! hand that on for a whole piece and a whole file. The forms in memory tell all, and the real
-//! forms of a disk and of the system's streams tell nothing of content.
+//! forms of a disk and of the system's streams tell nothing of content. `Engines` answer for
+//! patterns and addresses what the definitions of `regex` and `url` say, and refuse only with a rise
+//! of their count.
 //!
 //! A law, `keys_lead_to_their_pairs`, says of whole lists of pairs what the lookups by key mean.
 #![tactic(auto)]
 
 mod address;
 mod disk_files;
+mod engines;
 mod handed;
 mod key_places;
 mod keyed;
@@ -28,6 +31,7 @@ mod writing;
 
 pub use address::Address;
 pub use disk_files::DiskFiles;
+pub use engines::{EngineEnd, Engines};
 pub use key_places::MAX_SCANNED;
 pub use keyed::Keyed;
 pub use laws::keys_lead_to_their_pairs;
