@@ -16,6 +16,8 @@ pub enum Status {
     ExportRefused { rule: u8, path: Text },
     /// The trace's first bad line, counted from 1, and the least rule that it breaks.
     TraceRefused { line: u64, rule: u8 },
+    /// Engines refused this text: a pattern, or the address of a page.
+    EngineRefused { text: Text },
     /// The step with this number, from 1, needs one job more than a step may have.
     JobLimit { step: u64 },
     /// The text could not be written.
@@ -35,6 +37,7 @@ impl Status {
             Status::FileFault => 3,
             Status::ExportRefused { .. } => 4,
             Status::TraceRefused { .. } => 5,
+            Status::EngineRefused { .. } => 6,
             Status::JobLimit { .. } => 7,
             Status::SinkFault => 8,
             Status::OutOfMemory => 9,

@@ -8,8 +8,8 @@ use Rattle.gtm_base.specs.Outside.{FilesState, SinkState, Holds, Lacks, ReadWith
 use Rattle.gtm_base.specs.Outside.{TookFront, and_then}
 use Rattle.gtm_base.specs.declared.status.Status.{Status}
 use Rattle.gtm_base.specs.declared.status.Status.TheVariants.{Done, Usage, FileFault, ExportRefused}
-use Rattle.gtm_base.specs.declared.status.Status.TheVariants.{TraceRefused, JobLimit, SinkFault}
-use Rattle.gtm_base.specs.declared.status.Status.TheVariants.{OutOfMemory}
+use Rattle.gtm_base.specs.declared.status.Status.TheVariants.{TraceRefused, EngineRefused}
+use Rattle.gtm_base.specs.declared.status.Status.TheVariants.{JobLimit, SinkFault, OutOfMemory}
 use Rattle.gtm_cli.specs.Models.{Accepts, IsModels, model_text}
 use Rattle.gtm_cli.specs.Running.{TellsEnd, read_text}
 use Rattle.gtm_cli.specs.Words.{Names}
@@ -57,6 +57,7 @@ IsRefusal (TraceRefused line rule) = Unit {0}
 IsRefusal Done = ⊥
 IsRefusal Usage = ⊥
 IsRefusal FileFault = ⊥
+IsRefusal (EngineRefused text) = ⊥
 IsRefusal (JobLimit step) = ⊥
 IsRefusal SinkFault = ⊥
 IsRefusal OutOfMemory = ⊥

@@ -4,8 +4,8 @@ use Rattle.std.specs.Prelude.{Option, IfSome}
 use Rattle.gtm_base.specs.Outside.{SinkState, and_then, TookFront}
 use Rattle.gtm_base.specs.declared.status.Status.{Status}
 use Rattle.gtm_base.specs.declared.status.Status.TheVariants.{Done, Usage, FileFault, ExportRefused}
-use Rattle.gtm_base.specs.declared.status.Status.TheVariants.{TraceRefused, JobLimit, SinkFault}
-use Rattle.gtm_base.specs.declared.status.Status.TheVariants.{OutOfMemory}
+use Rattle.gtm_base.specs.declared.status.Status.TheVariants.{TraceRefused, EngineRefused}
+use Rattle.gtm_base.specs.declared.status.Status.TheVariants.{JobLimit, SinkFault, OutOfMemory}
 use Rattle.gtm_data.specs.JsonText.{quoted}
 use Rattle.replay_engine.specs.declared.limits.TheConstants.{MAX_JOBS}
 
@@ -35,6 +35,10 @@ abbrev pub bad_line_text : ℕ → ℕ → List ℕ
 bad_line_text line rule =
     codes "gtm_replay: trace: line " ++ decimal line ++ codes " rule " ++ decimal rule
 
+-- the text that the engines refused
+abbrev pub engine_text : List ℕ → List ℕ
+engine_text refused = codes "gtm_replay: engine refused " ++ quoted refused
+
 -- the step that needs a job more than it may have; the number is one more than `MAX_JOBS`
 abbrev pub limit_text : ℕ → List ℕ
 limit_text step =
@@ -51,6 +55,7 @@ status_text name Usage = usage_text ++ 10 ∷ []
 status_text name FileFault = unread_text name ++ 10 ∷ []
 status_text name (ExportRefused rule path) = refusal_text rule path ++ 10 ∷ []
 status_text name (TraceRefused line rule) = bad_line_text line rule ++ 10 ∷ []
+status_text name (EngineRefused text) = engine_text text ++ 10 ∷ []
 status_text name (JobLimit step) = limit_text step ++ 10 ∷ []
 status_text name SinkFault = unwritten_text ++ 10 ∷ []
 status_text name OutOfMemory = memory_text ++ 10 ∷ []

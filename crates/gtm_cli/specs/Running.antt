@@ -38,6 +38,7 @@ abbrev pub TellsEnd : Status → Type 0
 TellsEnd status.Done = Unit {0}
 TellsEnd (status.TraceRefused line rule) = Unit {0}
 TellsEnd (status.JobLimit step) = Unit {0}
+TellsEnd (status.EngineRefused text) = ⊥
 TellsEnd status.Usage = ⊥
 TellsEnd status.FileFault = ⊥
 TellsEnd (status.ExportRefused rule path) = ⊥

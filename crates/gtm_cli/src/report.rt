@@ -3,7 +3,7 @@ ghost use Rattle.std.specs.Str.{chars};
 ghost use Rattle.gtm_base.specs.Ascii.{is_all_ascii};
 ghost use Rattle.gtm_cli.specs.Report.{TookLine, TookText, status_text, unread_text, refusal_text};
 ghost use Rattle.gtm_cli.specs.Report.{bad_line_text, limit_text, unwritten_text, memory_text};
-ghost use Rattle.gtm_cli.specs.Report.{usage_text, line_of_text};
+ghost use Rattle.gtm_cli.specs.Report.{usage_text, line_of_text, engine_text};
 
 use gtm_base::{OutOfMemory, Sink, Status, Text, put};
 use gtm_data::write_quoted;
@@ -77,6 +77,7 @@ fn whole_line(alloc: Global, name: &str, status: &Status) -> Result<Text, OutOfM
         Status::FileFault => write_unread(&mut text, name)?,
         Status::ExportRefused { rule, path } => write_refusal(&mut text, *rule, path.as_str())?,
         Status::TraceRefused { line, rule } => write_bad_line(&mut text, *line, *rule)?,
+        Status::EngineRefused { text: refused } => write_engine(&mut text, refused.as_str())?,
         Status::JobLimit { step } => write_limit(&mut text, *step)?,
         Status::SinkFault => write_unwritten(&mut text)?,
         Status::OutOfMemory => write_out_of_memory(&mut text)?,
@@ -117,6 +118,14 @@ fn write_bad_line(text: &mut Text, line: u64, rule: u8) -> Result<(), OutOfMemor
     text.push_unsigned(line)?;
     text.push_word(" rule ")?;
     text.push_unsigned(rule as u64)?;
+    Ok(())
+}
+
+fn write_engine(text: &mut Text, refused: &str) -> Result<(), OutOfMemory>
+    ensures { OnOk result (text.new ≡ text.old ++ engine_text (chars refused.now)) }
+{
+    text.push_word("gtm_replay: engine refused ")?;
+    write_quoted(text, refused)?;
     Ok(())
 }
 
