@@ -1,3 +1,4 @@
+pub mod Ascending
 pub mod Converted
 pub mod Distincts
 pub mod Dotless

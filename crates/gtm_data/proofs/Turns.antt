@@ -36,7 +36,7 @@ read_before make (Some p) b new e =
     let both = both_parts (make p.0) p.1 new b e in
     (p.0, ap (λ rest. Some (p.0, rest)) both.0, both.1)
 
--- a number that has something of it made
+-- a number that was read, where something was made of it
 pub number_read : {A B : Type 0} {make : A → Option B} (read : Option A) (b : B)
     → option_and_then make read ≡ Some b → (a : A) × (read ≡ Some a) × (make a ≡ Some b)
 number_read None b e = absurd (cc)

@@ -1,4 +1,5 @@
 pub mod Distinct
+pub mod Facts
 pub mod Json
 pub mod JsonText
 pub mod Parsing
@@ -6,5 +7,6 @@ pub mod Paths
 pub mod Plain
 pub mod Refusals
 pub mod TextOf
+pub mod TextRead
 pub mod Tree
 pub mod WholeText

@@ -3,6 +3,7 @@ use Rattle.std.specs.Prelude.{◌≡◌, ◌≤◌, ◌+◌, ◌-◌, ℕ, suc, 
 use Rattle.std.specs.Prelude.{option_map, IsTrue, is_some, encode_utf8_all, ⊤}
 use Rattle.std.specs.Ordering.{nat_cmp, match_ordering}
 use Rattle.std.specs.Cmp.Lexicographic.{slice_cmp}
+use Rattle.std.specs.declared.cmp.Ordering.TheVariants.{Less}
 use Rattle.json.specs.Token.{Token}
 use Rattle.json.specs.Json.{items, members, value}
 use Rattle.serde_json.specs.Data as json
@@ -69,3 +70,14 @@ place_for key [] = Some 0
 place_for key (pair ∷ pairs) =
     match_ordering (slice_cmp nat_cmp key (encode_utf8_all pair.0))
     (Some 0) None (option_map suc (place_for key pairs))
+
+-- the key stands before each of these in the order of bytes
+abbrev pub IsBelow : {A : Type 0} → List ℕ → List (List ℕ × A) → Type 0
+IsBelow key [] = ⊤
+IsBelow key (pair ∷ pairs) =
+    (slice_cmp nat_cmp key (encode_utf8_all pair.0) ≡ Less) × IsBelow key pairs
+
+-- keys stand in ascending order of their bytes, and so none twice
+abbrev pub Ascend : {A : Type 0} → List (List ℕ × A) → Type 0
+Ascend [] = ⊤
+Ascend (pair ∷ pairs) = IsBelow (encode_utf8_all pair.0) pairs × Ascend pairs

@@ -3,10 +3,12 @@ ghost use Rattle.serde_json.specs.View.{view};
 ghost use Rattle.gtm_data.specs.Json.{json_of};
 ghost use Rattle.gtm_data.specs.Plain.{plain};
 ghost use Rattle.gtm_data.specs.Refusals.{RefusesText};
+ghost use Rattle.gtm_data.specs.TextRead.{read_tree};
 ghost use Rattle.gtm_data.specs.Tree.{tree_of};
+ghost use Rattle.std.specs.Str.{chars};
 
 use crate::data::Data;
-use crate::parsing::parse_data;
+use crate::parsing::{parse_data, parse_member};
 use crate::reading::{DataEnd, from_json};
 use gtm_base::OutOfMemory;
 use json::Scratch;
@@ -27,8 +29,9 @@ pub fn json_of(alloc: Global, bytes: &[u8]) -> Result<Option<Value>, OutOfMemory
     }
 }
 
-/// The data of a JSON text, or `None` where the bytes are no JSON. Errors are those of `from_json`.
-/// The scratch is memory that may be lent to one call after another, whatever they read.
+/// The data of a JSON text, or `None` where the bytes are no JSON. `NotWhole` comes where a number
+/// has no place among the data, else `TooDeep` where Lists and Maps nest more than `MAX_DEPTH`
+/// deep. The scratch is memory that may be lent to one call after another, whatever they read.
 pub fn data_of(alloc: Global, scratch: &mut Scratch, bytes: &[u8]) -> Result<Option<Data>, DataEnd>
     ensures ok { IfOk result (λ found. option_map (λ made. Some (tree_of made)) found
         ≡ option_map plain (json_of bytes.now)) }
@@ -37,6 +40,36 @@ pub fn data_of(alloc: Global, scratch: &mut Scratch, bytes: &[u8]) -> Result<Opt
     match parse_data(alloc, scratch, bytes)? {
         Some(made) => Ok(Some(made)),
         None => data_by_tree(alloc, bytes),
+    }
+}
+
+/// The data of a JSON text: where the text is an object with one member alone, and that member has
+/// the key that was asked for, the value of that member; of each other text, all its data.
+#[derive(Debug, Drop)]
+pub enum TextData {
+    Member(Data),
+    Whole(Data),
+}
+
+/// The same as `data_of`, but an object whose one member has this key is told by the value of the
+/// member, so that no Map is made for it.
+pub fn member_or_data_of(
+    alloc: Global,
+    scratch: &mut Scratch,
+    key: &str,
+    bytes: &[u8],
+) -> Result<Option<TextData>, DataEnd>
+    ensures ok { IfOk result (λ found.
+        option_map (λ made. Some (read_tree (chars key.now) made)) found
+        ≡ option_map plain (json_of bytes.now)) }
+    ensures err { IfErr result (RefusesText (json_of bytes.now)) }
+{
+    match parse_member(alloc, scratch, key, bytes)? {
+        Some(made) => Ok(Some(TextData::Member(made))),
+        None => match data_of(alloc, scratch, bytes)? {
+            Some(made) => Ok(Some(TextData::Whole(made))),
+            None => Ok(None),
+        },
     }
 }
 

@@ -1,10 +1,10 @@
 ghost use Rattle.std.specs.Prelude.{◌≡◌, ◌≤◌, ◌<◌, length, insert, IsTrue, IsSome, IfSome, IfOk};
-ghost use Rattle.std.specs.Prelude.{option_and_then, encode_utf8_all};
+ghost use Rattle.std.specs.Prelude.{Some, option_and_then, encode_utf8_all};
 ghost use Rattle.std.specs.Str.{chars};
 ghost use Rattle.gtm_data.specs.Json.{json_of};
-ghost use Rattle.gtm_data.specs.Parsing.{ReadsValue, ReadsItems, ReadsMembers, place_for};
+ghost use Rattle.gtm_data.specs.Parsing.{ReadsValue, ReadsItems, ReadsMembers, place_for, Ascend};
 ghost use Rattle.gtm_data.specs.Plain.{plain};
-ghost use Rattle.gtm_data.specs.Tree.{tree_of, trees_of, entries_of};
+ghost use Rattle.gtm_data.specs.Tree.{tree_of, trees_of, entries_of, object, entry, none};
 
 use crate::MAX_DEPTH;
 use crate::data::{Data, Items, Members};
@@ -26,7 +26,7 @@ pub(crate) fn parse_data(
     ensures { IfOk result (λ found. IfSome found
         (λ made. option_and_then plain (json_of bytes.now) ≡ Some (tree_of made))) }
 {
-    let Ok(text) = simdutf8::basic::from_utf8(bytes) else {
+    let Ok(text) = std::str::from_utf8(bytes) else {
         return Ok(None);
     };
     let mut reader = Reader::new(text, scratch)?;
@@ -37,6 +37,60 @@ pub(crate) fn parse_data(
         return Ok(None);
     }
     Ok(Some(made))
+}
+
+/// The one member of a JSON object that has this key and no other, in one pass over its tokens, or
+/// `None` where it gives up: at another value, and where `parse_data` does.
+pub(crate) fn parse_member(
+    alloc: Global,
+    scratch: &mut Scratch,
+    key: &str,
+    bytes: &[u8],
+) -> Result<Option<Data>, OutOfMemory>
+    ensures { IfOk result (λ found. IfSome found
+        (λ made. option_and_then plain (json_of bytes.now)
+        ≡ Some (object (entry (chars key.now) (tree_of made) none)))) }
+{
+    let Ok(text) = std::str::from_utf8(bytes) else {
+        return Ok(None);
+    };
+    let mut reader = Reader::new(text, scratch)?;
+    let Some(Token::BeginObject) = reader.next() else {
+        return Ok(None);
+    };
+    let Some(made) = read_only_member(alloc, &mut reader, key, MAX_DEPTH - 1)? else {
+        return Ok(None);
+    };
+    match reader.next() {
+        None => Ok(Some(made)),
+        Some(_) => Ok(None),
+    }
+}
+
+// The value of the only member of a Map, which has this key, up to the Map's end.
+fn read_only_member(
+    alloc: Global,
+    reader: &mut Reader<'_>,
+    key: &str,
+    levels: usize,
+) -> Result<Option<Data>, OutOfMemory>
+    ensures { IfOk result (λ found. IfSome found
+        (λ made. ReadsMembers levels reader.old (entry (chars key.now) (tree_of made) none)
+        reader.new)) }
+{
+    let Ok(Some(name)) = reader.next_key() else {
+        return Ok(None);
+    };
+    if name != key {
+        return Ok(None);
+    }
+    let Some(member) = read_value(alloc, reader, levels)? else {
+        return Ok(None);
+    };
+    let Ok(None) = reader.next_key() else {
+        return Ok(None);
+    };
+    Ok(Some(member))
 }
 
 // The value that the next tokens are, with Lists and Maps at most so many levels deep.
@@ -146,6 +200,7 @@ fn place_member(
     key: &str,
     member: Data,
 ) -> Result<bool, OutOfMemory>
+    requires { Ascend found.old.pairs }
     ensures placed { IfOk result (λ done. IsTrue done
         → IfSome (place_for key.now found.old.pairs)
         (λ at. found.new.pairs ≡ insert found.old.pairs at (chars key.now, member))) }
@@ -153,8 +208,9 @@ fn place_member(
         → encode_utf8_all (chars key.now) ≡ key.now) }
     ensures there { IfOk result (λ done. IsTrue done
         → IsSome (place_for key.now found.old.pairs)) }
+    ensures ascend { IfOk result (λ done. IsTrue done → Ascend found.new.pairs) }
 {
-    if found.len() >= MAX_SCANNED || found.place_of(key).is_some() {
+    if found.len() >= MAX_SCANNED {
         return Ok(false);
     }
     let Some(at) = place_for(found.as_slice(), key) else {

@@ -12,7 +12,7 @@ use gtm_base::{OutOfMemory, Text};
 use serde_json::{Map, Value};
 use std::alloc::Global;
 
-/// Why there is no data of a JSON tree.
+/// Why there is no data of a JSON tree or text.
 #[derive(Debug, Drop)]
 pub enum DataEnd {
     /// Memory was wanting.

@@ -11,6 +11,7 @@ use Rattle.serde_json.specs.Data as json
 use Rattle.serde_json.specs.Read.{of_json, converted, number_of}
 use Rattle.gtm_data.specs.declared.data.Data.{the_lemmas}
 use Rattle.gtm_data.specs.Parsing.{ReadsValue, ReadsItems, ReadsMembers, levels_more, place_for}
+use Rattle.gtm_data.specs.Parsing.{Ascend}
 use Rattle.gtm_data.specs.Tree as Tree
 use Rattle.gtm_data.specs.Tree.{trees, tree_of, trees_of, entries_of}
 use Rattle.gtm_data.proofs.Gathered.{before, each_fits-push, items_whole, items_within, one_more}
@@ -193,6 +194,7 @@ read_members-members-init t c = (
   omega arith,
   refl,
   subst (AllMatch c.args.levels json.no_members) (sym c.new-found.ensures) tt,
+  subst Ascend (sym c.new-found.ensures) tt,
   omega arith,
 )
 
@@ -222,7 +224,7 @@ read_members-members-preserved t c =
     let turns = l.invariant.0 in
     let ms = l.invariant.1 in
     let enough = l.invariant.2 in
-    let shrinks = l.invariant.5 in
+    let shrinks = l.invariant.6 in
     let key = c.in-Some.key.now in
     let pairs = l.found.pairs in
     let member = c.in-Some-2.member in
@@ -253,5 +255,6 @@ read_members-members-preserved t c =
       omega arith,
       l.invariant.3 ∙ turn,
       subst (AllMatch levels (json.put key r.found ms)) (sym placed) matched,
+      placing.ascend done,
       omega arith,
     )

@@ -2,7 +2,7 @@ use Rattle.std.proofs.Common.{◌≡◌, ℕ, ◌≤◌, ◌+◌, ◌*◌, List,
 use Rattle.json.specs.Json.{items, members, value, parse_map}
 use Rattle.serde_json.specs.Data as json
 use Rattle.serde_json.specs.Read.{of_items, of_members, converted}
-use Rattle.gtm_data.specs.Parsing.{levels_more}
+use Rattle.gtm_data.specs.Parsing.{Ascend, levels_more}
 use Rattle.gtm_data.specs.Plain.{tree_in}
 use Rattle.gtm_data.specs.Tree.{tree_of}
 use Rattle.gtm_data.proofs.Gathered.{before, EachFits}
@@ -39,7 +39,7 @@ invariant-read_members-members l =
     × (converted (λ ks. of_members ks json.no_members)
     (members (value (l.levels + levels_more)) (length l.initial.reader) l.initial.reader)
     ≡ converted (λ ks. of_members ks ms) (members (value (l.levels + levels_more)) turns l.reader))
-    × AllMatch l.levels ms l.found.pairs
+    × AllMatch l.levels ms l.found.pairs × Ascend l.found.pairs
     × (length l.reader ≤ length l.initial.reader)
 
 abbrev pub decreases-read_members-members : goal.decreases-read_members-members
