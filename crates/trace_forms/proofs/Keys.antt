@@ -5,13 +5,13 @@ use Rattle.std.specs.Prelude.{pos, codes, not, option_map, option_and_then, ifâ—
 use Rattle.std.specs.Str.{bytes_eq}
 use Rattle.std.proofs.lemmas.Slice.Eq.{bytes_eq-Decides}
 use Rattle.gtm_base.proofs.Pairs.{and_true}
+use Rattle.gtm_data.specs.Facts.{cookie, global, returns, time}
 use Rattle.gtm_data.specs.Tree.{Tree, list, object, none, entry, text_in}
 use Rattle.trace_forms.specs.FormKeys.{keys_in, step_keys}
 use Rattle.trace_forms.specs.Forms.{step_or_kind, are_listed, are_texts, page_fact, page_in}
 use Rattle.trace_forms.specs.Forms.{is_regional, args_in, natural_in, counted_in, truth_in}
 use Rattle.trace_forms.specs.Forms.{listed_texts, are_keys, single, pair, form_of}
-use Rattle.trace_forms.specs.Steps.{fact, cookie, global, returns, time, Step, push, args, load}
-use Rattle.trace_forms.specs.Steps.{vendor, Reading, step, bad}
+use Rattle.trace_forms.specs.Steps.{fact, Step, push, args, load, vendor, Reading, step, bad}
 
 -- where it is a step, these are the keys of its form
 record HasKeys (keys : List (List â„•)) (reading : Reading) : Type 0 where

@@ -1,8 +1,8 @@
 -- The keys of a line's form.
 use Rattle.std.specs.Prelude.{ℕ, List, [], ◌∷◌, codes}
+use Rattle.gtm_data.specs.Facts.{Fact, page, cookie, global, returns, time, ids}
 use Rattle.gtm_data.specs.Tree.{Tree, object, Entries, none, entry}
-use Rattle.trace_forms.specs.Steps.{Fact, page, cookie, global, returns, time, ids, Step, fact}
-use Rattle.trace_forms.specs.Steps.{push, args, load, vendor}
+use Rattle.trace_forms.specs.Steps.{Step, fact, push, args, load, vendor}
 
 -- the keys of members, in their order
 abbrev pub keys_of : Entries → List (List ℕ)

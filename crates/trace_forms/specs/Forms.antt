@@ -5,11 +5,11 @@ use Rattle.std.specs.Prelude.{◌&&◌, not, option_map, option_and_then, if◌t
 use Rattle.std.specs.Option.{option_map_or}
 use Rattle.std.specs.List.{list_any}
 use Rattle.std.specs.Str.{bytes_eq}
+use Rattle.gtm_data.specs.Facts.{Fact, page, cookie, global, returns, time}
 use Rattle.gtm_data.specs.Paths.{member}
 use Rattle.gtm_data.specs.Tree.{Tree, bool, whole, list, object, Trees, end, item, Entries, none}
 use Rattle.gtm_data.specs.Tree.{entry, text_in}
-use Rattle.trace_forms.specs.Steps.{Fact, page, cookie, global, returns, time, Step, fact, push}
-use Rattle.trace_forms.specs.Steps.{args, load, vendor, Reading, step, bad}
+use Rattle.trace_forms.specs.Steps.{Step, fact, push, args, load, vendor, Reading, step, bad}
 
 -- a step where there is one, and else rule 6: a member of another kind
 abbrev pub step_or_kind : Option Step → Reading

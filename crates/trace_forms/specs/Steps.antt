@@ -1,24 +1,7 @@
 -- The steps of a trace, with trees for values.
-use Rattle.std.specs.Prelude.{ℕ, ℤ, List, Option, Bool}
-use Rattle.gtm_base.specs.declared.address.Address.{Address}
+use Rattle.std.specs.Prelude.{ℕ, Bool}
+use Rattle.gtm_data.specs.Facts.{Fact}
 use Rattle.gtm_data.specs.Tree.{Tree}
-
--- what is known of a page
-pub data Fact : Type 0 where
-  -- the address, the referrer, the title, the character set and the region, where they are told,
-  -- and the two addresses where they were read
-  page : (url referrer title charset region : Option (List ℕ))
-      → (url_address referrer_address : Option Address) → Fact
-  -- all values of the cookie of a name
-  cookie : (name : List ℕ) → (values : List (List ℕ)) → Fact
-  -- the value of a global variable
-  global : (key : List ℕ) → (value : Tree) → Fact
-  -- what a global function returns
-  returns : (key : List ℕ) → (value : Tree) → Fact
-  -- the time in milliseconds
-  time : ℤ → Fact
-  -- the container's public name and the number of its version
-  ids : (public_id version_id : List ℕ) → Fact
 
 -- one step
 pub data Step : Type 0 where

@@ -1,7 +1,7 @@
 ghost use Rattle.std.specs.Prelude.{◌≡◌, IfOk};
+ghost use Rattle.gtm_data.specs.Facts.{global, returns};
 ghost use Rattle.gtm_data.specs.Tree.{tree_of, whole};
 ghost use Rattle.trace_forms.specs.Forms.{cookie_in, global_in, time_in};
-ghost use Rattle.trace_forms.specs.Steps.{global, returns};
 ghost use Rattle.trace_forms.specs.Views.{reading_of};
 
 use crate::kinds::{into_text, texts_in};

@@ -1,10 +1,10 @@
 ghost use Rattle.std.specs.Prelude.{◌≡◌, ℕ, pos, suc, List, map, Bool, true, false, codes};
+ghost use Rattle.gtm_data.specs.Facts.{cookie, global, returns, time};
 ghost use Rattle.gtm_data.specs.Tree.{Tree, Trees, trees, bool, whole, text, list, object, Entries};
 ghost use Rattle.gtm_data.specs.Tree.{none, entry};
 ghost use Rattle.trace_forms.specs.FormKeys.{keys_in, step_keys};
 ghost use Rattle.trace_forms.specs.Forms.{form_of, is_regional, are_listed, are_texts, page_fact};
-ghost use Rattle.trace_forms.specs.Steps.{Step, fact, push, args, load, vendor, cookie, global};
-ghost use Rattle.trace_forms.specs.Steps.{returns, time, step};
+ghost use Rattle.trace_forms.specs.Steps.{Step, fact, push, args, load, vendor, step};
 
 /// A law, with nothing to call: what each form asks for.
 pub fn forms_ask_for_steps()

@@ -4,9 +4,9 @@ ghost use Rattle.trace_forms.specs.Lines.{is_blank, line_of, reading_of_tree};
 ghost use Rattle.trace_forms.specs.Views.{reading_of};
 
 use crate::forms::read_form;
-use crate::steps::LineRead;
+use crate::steps::{LineRead, TraceStep};
 use gtm_base::OutOfMemory;
-use gtm_data::{DataEnd, data_of};
+use gtm_data::{DataEnd, TextData, member_or_data_of};
 use json::Scratch;
 use std::alloc::Global;
 
@@ -32,12 +32,13 @@ fn is_blank(text: &[u8]) -> bool
         .all(|b| *b == b' ' || *b == b'\t' || *b == b'\r')
 }
 
-// What a line says that is not blank.
+// What a line says that is not blank. Most lines are pushes, for which no Map is made.
 fn read_text(alloc: Global, scratch: &mut Scratch, text: &[u8]) -> Result<LineRead, OutOfMemory>
     ensures { IfOk result (λ read. reading_of read ≡ reading_of_tree (json_of text.now)) }
 {
-    match data_of(alloc, scratch, text) {
-        Ok(Some(data)) => read_form(alloc, data),
+    match member_or_data_of(alloc, scratch, "push", text) {
+        Ok(Some(TextData::Member(value))) => Ok(LineRead::Step(TraceStep::Push(value))),
+        Ok(Some(TextData::Whole(data))) => read_form(alloc, data),
         Ok(None) => Ok(LineRead::Bad(2)),
         Err(DataEnd::OutOfMemory) => Err(OutOfMemory),
         Err(DataEnd::NotWhole { .. }) => Ok(LineRead::Bad(3)),

@@ -1,10 +1,11 @@
 ghost use Rattle.std.specs.Prelude.{◌≡◌, ℕ, List, false, IsTrue};
 ghost use Rattle.std.specs.Str.{chars, bytes_eq};
 ghost use Rattle.gtm_base.specs.Ascii.{is_all_ascii};
+ghost use Rattle.gtm_data.specs.Facts.{fact_of};
 ghost use Rattle.gtm_data.specs.Tree.{tree_of, entries_of};
 ghost use Rattle.trace_forms.specs.Forms.{page_in, page_of, page_fact, page_keys, is_among};
 ghost use Rattle.trace_forms.specs.Forms.{are_listed, are_texts, is_text, text_at};
-ghost use Rattle.trace_forms.specs.Views.{fact_of, reading_of};
+ghost use Rattle.trace_forms.specs.Views.{reading_of};
 
 use crate::kinds::into_text;
 use crate::steps::{LineRead, TraceStep};
