@@ -23,9 +23,11 @@ mod nesting;
 mod taking;
 mod under;
 
+pub use inside::members_of;
 pub use laws::{
     commands_go_by_paths, commands_keep_keys_distinct, merge_goes_by_paths,
     merge_keeps_keys_distinct, messages_keep_keys_distinct, paths_determine_the_command,
     paths_determine_the_merge, version_one_keeps_the_last_value,
 };
 pub use layer::Layer;
+pub use nesting::parts as key_parts;

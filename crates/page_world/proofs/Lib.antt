@@ -1,0 +1,7 @@
+mod Below
+mod InTheWay
+mod Overwrites
+mod Placed
+mod SetPaths
+mod Takes
+mod Told

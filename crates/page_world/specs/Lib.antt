@@ -1,0 +1,9 @@
+pub mod Facts
+pub mod Globals
+pub mod Known
+pub mod Page
+pub mod Pairs
+pub mod Parts
+pub mod Returned
+pub mod Returns
+pub mod World
