@@ -1,0 +1,16 @@
+use denote.Shadow.{shadow}
+use denote.Text.{Utf8}
+use Rattle.std.proofs.Common.{◌≡◌, length}
+use Rattle.std.specs.Str.{chars}
+use Rattle.address_parts.specs.Fronts as spec
+use Rattle.address_parts.proofs.fronts.behind_front.Given as goal
+
+abbrev pub invariant-loop-c : goal.invariant-loop-c
+invariant-loop-c l =
+    shadow (Utf8 l.left)
+    × shadow (Utf8 l.rest)
+    × (spec.behind_front (chars l.left) (chars l.rest)
+    ≡ spec.behind_front (chars l.front) (chars l.text))
+
+abbrev pub decreases-loop-c : goal.decreases-loop-c
+decreases-loop-c l = length (chars l.left)
