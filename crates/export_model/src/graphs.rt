@@ -1,10 +1,11 @@
 ghost use Rattle.std.specs.Prelude.{◌≡◌, IfOk};
 ghost use Rattle.std.specs.List.{filter_map};
 ghost use Rattle.export_model.specs.Graphs.{variable_at, variable_graph, trigger_at, group_graph};
-ghost use Rattle.export_model.specs.Names.{names_of_variable};
+ghost use Rattle.export_model.specs.Names.{names_in, names_of_variable};
+ghost use Rattle.export_model.specs.Params.{value_of};
 
-use crate::names::{push_named_by_format, push_named_by_params};
-use crate::{Container, TriggerRef, TriggerRefs, Variable};
+use crate::names::{push_named_by_format, push_named_by_params, push_named_by_value};
+use crate::{Container, ParamValue, TriggerRef, TriggerRefs, Variable};
 use gtm_base::{ListOf, OutOfMemory};
 use std::alloc::Global;
 
@@ -23,15 +24,24 @@ pub fn variable_graph(
     Ok(graph)
 }
 
-// The places of the variables that a variable names: those in its parameters, then those in its
-// format.
+/// The places of the variables that a variable names: those in its parameters, then those in its
+/// format. Fails where memory is wanting.
 #[tactic(auto, using(crate::proofs::Joined::joined))]
-fn named_by_variable(alloc: Global, variable: &Variable) -> Result<ListOf<usize>, OutOfMemory>
+pub fn named_by_variable(alloc: Global, variable: &Variable) -> Result<ListOf<usize>, OutOfMemory>
     ensures { IfOk result (λ made. made ≡ filter_map variable_at (names_of_variable variable.now)) }
 {
     let mut found = ListOf::new(alloc);
     push_named_by_params(&mut found, &variable.params)?;
     push_named_by_format(&mut found, &variable.format)?;
+    Ok(found)
+}
+
+/// The places of the variables that the value of a parameter names. Fails where memory is wanting.
+pub fn named_by_value(alloc: Global, value: &ParamValue) -> Result<ListOf<usize>, OutOfMemory>
+    ensures { IfOk result (λ made. made ≡ filter_map variable_at (names_in (value_of value.now))) }
+{
+    let mut found = ListOf::new(alloc);
+    push_named_by_value(&mut found, value)?;
     Ok(found)
 }
 

@@ -6,7 +6,8 @@
 //! itself. A contract sees a parameter as its `param_of`, a tree of plain numbers, texts and lists.
 //! `first_of_key` gives the first parameter with a key, and its law says so of all lists.
 //! `variable_graph` and `group_graph` tell which variables name which, and which groups have which
-//! triggers as members.
+//! triggers as members; `named_by_variable` and `named_by_value` tell it of one variable and of the
+//! value of one parameter.
 #![tactic(auto)]
 
 mod conditions;
@@ -24,7 +25,7 @@ mod variables;
 
 pub use conditions::{Condition, Conditions, Op};
 pub use container::Container;
-pub use graphs::{group_graph, variable_graph};
+pub use graphs::{group_graph, named_by_value, named_by_variable, variable_graph};
 pub use keys::first_of_key;
 pub use laws::a_key_finds_its_first_parameter;
 pub use params::{NameRef, Param, ParamValue, Params, Piece, Pieces};

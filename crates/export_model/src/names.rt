@@ -27,7 +27,10 @@ pub(crate) fn push_named_by_params(
 // Puts the places of the variables that the value of a parameter names behind those already found.
 #[cycle(params)]
 #[tactic(auto, unfolding(crate::specs::Names::names_in))]
-fn push_named_by_value(found: &mut ListOf<usize>, value: &ParamValue) -> Result<(), OutOfMemory>
+pub(crate) fn push_named_by_value(
+    found: &mut ListOf<usize>,
+    value: &ParamValue,
+) -> Result<(), OutOfMemory>
     ensures { OnOk result
         (found.new ≡ found.old ++ filter_map variable_at (names_in (value_of value.now))) }
 {
