@@ -77,14 +77,22 @@ first_fields names at (f ∷ fs) =
 abbrev pub distinct_fields : List FieldName → List FieldName
 distinct_fields fields = first_fields (names_of fields) 0 fields
 
-abbrev pub by_list : Bool → Tree → Result (Bool × List FieldName) FieldsEnd
-by_list tag (list ts) =
-    if are_fields ts then Ok (tag, distinct_fields (fields_below ts)) else Err Fields
-by_list tag _ = Err Fields
+-- the fields of these objects, where they have the form
+abbrev pub listed_fields : Trees → Option (List FieldName)
+listed_fields ts = if are_fields ts then Some (distinct_fields (fields_below ts)) else None
+
+-- the fields of a list of parameters, where it has the form of one
+abbrev pub fields_in : Tree → Option (List FieldName)
+fields_in (list ts) = listed_fields ts
+fields_in _ = None
+
+abbrev pub by_fields : Bool → Option (List FieldName) → Result (Bool × List FieldName) FieldsEnd
+by_fields tag None = Err Fields
+by_fields tag (Some fields) = Ok (tag, fields)
 
 abbrev pub by_tag : Option Bool → Tree → Result (Bool × List FieldName) FieldsEnd
 by_tag None parameters = Err Info
-by_tag (Some tag) parameters = by_list tag parameters
+by_tag (Some tag) parameters = by_fields tag (fields_in parameters)
 
 -- what is read of INFO and the parameters
 abbrev pub fields_read : Tree → Tree → Result (Bool × List FieldName) FieldsEnd

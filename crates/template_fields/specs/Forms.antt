@@ -1,15 +1,10 @@
 -- The form of a template's INFO and of its parameters.
-use Rattle.std.specs.Prelude.{ℕ, ◌==◌, ◌&&◌, ◌||◌, not, if◌then◌else◌, List, map, Bool, true}
+use Rattle.std.specs.Prelude.{ℕ, ◌&&◌, ◌||◌, if◌then◌else◌, List, Bool, true}
 use Rattle.std.specs.Prelude.{false, Option, Some, None, is_some, codes}
-use Rattle.std.specs.Char.{to_ascii_lowercase}
-use Rattle.std.specs.List.{filter}
 use Rattle.std.specs.Str.{bytes_eq}
+use Rattle.folded_words.specs.Words.{folded}
 use Rattle.gtm_data.specs.Paths.{member, member_of}
 use Rattle.gtm_data.specs.Tree.{Tree, list, object, Trees, end, item, Entries, none, entry, text_in}
-
--- a word without its underscores, its ASCII letters lower-cased
-abbrev pub folded : List ℕ → List ℕ
-folded word = map to_ascii_lowercase (filter (λ c. not (c == 95)) word)
 
 abbrev pub text_found : Option Tree → Option (List ℕ)
 text_found None = None

@@ -4,7 +4,7 @@ ghost use Rattle.gtm_data.specs.Paths.{member_of};
 ghost use Rattle.template_fields.specs.Fields.{fields_read, fields_below, fields_at, sub_fields};
 ghost use Rattle.template_fields.specs.Fields.{list_fields, radio_fields, radio_list_fields};
 ghost use Rattle.template_fields.specs.Fields.{radios_fields, radio_item_fields, own_field};
-ghost use Rattle.template_fields.specs.Fields.{is_table, distinct_fields};
+ghost use Rattle.template_fields.specs.Fields.{is_table, listed_fields, fields_in};
 ghost use Rattle.template_fields.specs.Forms.{text_found};
 
 use crate::firsts::distinct_fields;
@@ -51,17 +51,34 @@ pub fn read_fields(
         Some(tag) => tag,
         None => return Err(FieldsEnd::Info),
     };
-    let items = match parameters {
-        Data::List(items) => items.as_slice(),
-        _ => return Err(FieldsEnd::Fields),
-    };
+    match fields_in(alloc, parameters)? {
+        Some(fields) => Ok((tag, fields)),
+        None => Err(FieldsEnd::Fields),
+    }
+}
+
+/// The fields of a list of parameters, as `read_fields` gives them, or `None` where it has not the
+/// form of one. Fails where memory is wanting.
+pub fn fields_in(alloc: Global, parameters: &Data) -> Result<Option<FieldNames>, OutOfMemory>
+    ensures { IfOk result (λ found. found ≡ fields_in (tree_of parameters.now)) }
+{
+    match parameters {
+        Data::List(items) => listed_fields(alloc, items.as_slice()),
+        _ => Ok(None),
+    }
+}
+
+// The fields of these objects, where they have the form.
+fn listed_fields(alloc: Global, items: &[Data]) -> Result<Option<FieldNames>, OutOfMemory>
+    ensures { IfOk result (λ found. found ≡ listed_fields (trees_of items.now)) }
+{
     if !are_fields(items) {
-        return Err(FieldsEnd::Fields);
+        return Ok(None);
     }
     let mut all = FieldNames::new(alloc);
     put_fields(alloc, &mut all, items)?;
     let fields = distinct_fields(alloc, all.as_slice())?;
-    Ok((tag, fields))
+    Ok(Some(fields))
 }
 
 #[cycle(fields)]

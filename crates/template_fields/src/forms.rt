@@ -1,18 +1,19 @@
 ghost use Rattle.std.specs.Prelude.{◌≡◌, IfOk, IsTrue, option_map, codes};
-ghost use Rattle.std.specs.Str.{chars};
 ghost use Rattle.gtm_base.specs.Ascii.{is_all_ascii};
 ghost use Rattle.gtm_data.specs.Paths.{member_of};
 ghost use Rattle.gtm_data.specs.Tree.{tree_of, trees_of, entries_of};
-ghost use Rattle.template_fields.specs.Forms.{folded, is_tag, text_found, is_group, is_described};
+ghost use Rattle.template_fields.specs.Forms.{is_tag, text_found, is_group, is_described};
 ghost use Rattle.template_fields.specs.Forms.{are_fields, is_field, has_subs, is_list, has_radios};
 ghost use Rattle.template_fields.specs.Forms.{is_radio_list, are_radios, is_radio};
 
+use folded_words::folded;
 use gtm_base::{OutOfMemory, Text};
 use gtm_data::{Data, Members};
 use std::alloc::Global;
 
-// Whether the template is one of tags, or of variables, or `None` where it says neither.
-pub(crate) fn is_tag(alloc: Global, info: &Data) -> Result<Option<bool>, OutOfMemory>
+/// Whether INFO says that its template is one of tags, or of variables, or `None` where it says
+/// neither: it is no object with the type TAG or MACRO. Fails where memory is wanting.
+pub fn is_tag(alloc: Global, info: &Data) -> Result<Option<bool>, OutOfMemory>
     ensures { IfOk result (λ tag. tag ≡ is_tag (tree_of info.now)) }
 {
     let kind = match text_member(info, "type") {
@@ -27,19 +28,6 @@ pub(crate) fn is_tag(alloc: Global, info: &Data) -> Result<Option<bool>, OutOfMe
     } else {
         Ok(None)
     }
-}
-
-// The word without its underscores, its ASCII letters lower-cased.
-fn folded(alloc: Global, text: &str) -> Result<Text, OutOfMemory>
-    ensures { IfOk result (λ made. made ≡ folded (chars text.now)) }
-{
-    let mut made = Text::new(alloc);
-    for c in text.chars() {
-        if c != '_' {
-            made.push(c.to_ascii_lowercase())?;
-        }
-    }
-    Ok(made)
 }
 
 // The text of the member of a Map with this key.

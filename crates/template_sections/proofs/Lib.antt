@@ -1,3 +1,4 @@
 pub mod HeadingLaws
 pub mod LinesRead
 pub mod PartsFound
+pub mod Spans

@@ -1,5 +1,5 @@
 -- The sections of a text, and why it has none.
-use Rattle.std.specs.Prelude.{◌≡◌, ℕ, ◌-◌, nat_lt, if◌then◌else◌, List, [], ◌∷◌, map, length}
+use Rattle.std.specs.Prelude.{◌≡◌, ◌≤◌, ℕ, ◌-◌, nat_lt, IfSome, if◌then◌else◌, List, [], ◌∷◌, map, length}
 use Rattle.std.specs.Prelude.{Option, Some, None, option_map, Result, Ok, Err, codes, slice_get}
 use Rattle.std.specs.Str.{bytes_eq, trim_start}
 use Rattle.text_places.specs.Places.{first_repeat}
@@ -73,3 +73,16 @@ pub record IsCut (text : List ℕ) (result : Result Sections SectionEnd) : Type 
   pub parts : List Part
   pub are : IsCutInto text first parts
   pub is : result ≡ outcome text (placed (size first) parts)
+
+-- a span lies in a text of so many bytes
+pub record IsWithin (whole : ℕ) (span : Span) : Type 0 where
+  pub ordered : span.from ≤ span.to
+  pub ends : span.to ≤ whole
+
+-- so does each span of sections
+pub record AreWithin (whole : ℕ) (sections : Sections) : Type 0 where
+  pub info : IsWithin whole sections.info
+  pub parameters : IfSome sections.parameters (IsWithin whole)
+  pub script : IsWithin whole sections.script
+  pub permissions : IfSome sections.permissions (IsWithin whole)
+  pub tests : IfSome sections.tests (IsWithin whole)

@@ -2,7 +2,8 @@ ghost use Rattle.std.specs.Prelude.{◌≡◌, ◌≢◌, ◌≤◌, ◌+◌, �
 ghost use Rattle.std.specs.Prelude.{IsTrue, Err};
 ghost use Rattle.gtm_base.specs.Ascii.{is_all_ascii};
 ghost use Rattle.template_sections.specs.Cut.{IsCut, span_of, next_at, repeated, outcome};
-ghost use Rattle.template_sections.specs.Cut.{by_repeat, sections_in, visible_place};
+ghost use Rattle.template_sections.specs.Cut.{by_repeat, sections_in, visible_place, AreWithin};
+ghost use Rattle.template_sections.specs.Scan.{IsSectionsOf};
 
 use crate::headings::{Heading, headings};
 use gtm_base::{OutOfMemory, Text};
@@ -60,9 +61,11 @@ impl From<OutOfMemory> for SectionEnd {
 /// the letters `A` to `Z`, digits and underscores, and three underscores; a carriage return before
 /// the line feed counts with neither. A body goes from behind the heading's line to the next
 /// heading, or to the end. Refused where a heading stands twice, else where INFO or the script is
-/// missing, else where there is text before the first heading.
+/// missing, else where there is text before the first heading. The bodies lie in the text.
 pub fn cut(alloc: Global, text: &str) -> Result<Sections, SectionEnd>
-    ensures { result ≢ Err SectionEnd.OutOfMemory → IsCut text.now result }
+    ensures parts { result ≢ Err SectionEnd.OutOfMemory → IsCut text.now result }
+    ensures exact { IsSectionsOf text.now result }
+    ensures within { IfOk result (AreWithin (length text.now)) }
 {
     let headings = headings(alloc, text.as_bytes())?;
     let headings = headings.as_slice();

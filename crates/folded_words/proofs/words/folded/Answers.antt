@@ -2,8 +2,8 @@ use Rattle.std.proofs.Common.{◌≡◌, ap, sym, ◌∙◌, map-id}
 use Rattle.std.specs.Str.{chars}
 use Rattle.std.proofs.lemmas.Iterator.{YieldsList-from_chars}
 use Rattle.std.proofs.lemmas.Iterator.Consumers.{YieldsList-end}
-use Rattle.template_fields.specs.Forms.{folded}
-use Rattle.template_fields.proofs.forms.folded.Goals as goal
+use Rattle.folded_words.specs.Words.{folded}
+use Rattle.folded_words.proofs.words.folded.Goals as goal
 
 pub returns : goal.returns
 returns c =
