@@ -2,6 +2,8 @@ pub mod FirstFault
 pub mod NotBuilt
 pub mod Priorities
 pub mod Repeats
+pub mod TableValues
+pub mod TemplateTexts
 pub mod UnknownTags
 pub mod UnknownTriggers
 pub mod UnknownTypes

@@ -11,8 +11,8 @@ use gtm_base::{ListOf, OutOfMemory, Text};
 use std::alloc::Global;
 use text_places::first_repeat;
 
-/// The path, from the container version, of the first entry that has the id of an earlier one of its
-/// list. `None` where the ids of each list differ. Fails where memory is wanting.
+/// The path, from the container version, of the first entry that has the id of an earlier one of
+/// its list. `None` where the ids of each list differ. Fails where memory is wanting.
 #[tactic(auto, unfolding(crate::specs::Repeats::duplicate_id))]
 pub fn duplicate_id(alloc: Global, written: &WrittenEntries) -> Result<Option<Text>, OutOfMemory>
     ensures { IfOk result (λ found. found ≡ repeats.duplicate_id written.now) }

@@ -2,7 +2,8 @@ ghost use Rattle.std.specs.Prelude.{◌≡◌, codes, IfOk, None};
 ghost use Rattle.std.specs.Option.{option_map_or};
 ghost use Rattle.export_names.specs.Lists.{lists_of};
 ghost use Rattle.export_checks.specs.FirstFault.{list_fault};
-ghost use Rattle.export_checks.specs.UnknownTags.{unknown_sequence_tag, tag_sequence_fault, name_fault};
+ghost use Rattle.export_checks.specs.UnknownTags.{unknown_sequence_tag, tag_sequence_fault};
+ghost use Rattle.export_checks.specs.UnknownTags.{name_fault};
 
 use crate::paths::{item_path, member_path};
 use export_entries::{WrittenEntries, WrittenSetup, WrittenTag, WrittenTags, WrittenTeardown};

@@ -36,7 +36,8 @@ pub fn unknown_trigger(
 
 // The first unknown number of a tag.
 fn in_tags(alloc: Global, ids: &Numbers, tags: &WrittenTags) -> Result<Option<Text>, OutOfMemory>
-    ensures { IfOk result (λ found. found ≡ list_fault (codes "tag") (tag_trigger_fault ids.now) tags.now) }
+    ensures { IfOk result
+        (λ found. found ≡ list_fault (codes "tag") (tag_trigger_fault ids.now) tags.now) }
 {
     for (at, tag) in tags.as_slice().iter().enumerate() {
         if let Some(path) = in_tag(alloc, ids, tag)? {

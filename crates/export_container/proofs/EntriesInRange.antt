@@ -7,7 +7,7 @@ use Rattle.std.specs.Option.{option_map_or}
 use Rattle.std.specs.Str.{bytes_eq}
 use Rattle.std.proofs.lemmas.List.Elements.{All-nil, All-cons, All-append, All-weaker}
 use Rattle.text_places.specs.Places.{place_of}
-use Rattle.export_fields.specs.Words.{among}
+use Rattle.folded_words.specs.Words.{among}
 use Rattle.export_fields.specs.declared.params.WrittenParam.{WrittenParam}
 use Rattle.export_entries.specs.declared.conditions.WrittenCondition.{WrittenCondition}
 use Rattle.export_entries.specs.declared.entries.WrittenEntries.{WrittenEntries}
@@ -28,10 +28,10 @@ use Rattle.export_model.specs.declared.params.NameRef.TheVariants.{Nothing}
 use Rattle.export_model.specs.declared.tags.TagKind.TheVariants as tag_kind
 use Rattle.export_model.specs.declared.triggers.TriggerRef.TheVariants.{Own, Never}
 use Rattle.export_model.specs.declared.variables.VariableKind.TheVariants as variable_kind
-use Rattle.export_params.proofs.LookUps.{no_name_in_empty, looked_up}
-use Rattle.export_params.specs.LookedUp.{IsLookedUp}
-use Rattle.export_params.specs.Names.{name_ref}
-use Rattle.export_params.specs.Params as turned
+use Rattle.export_names.proofs.LookUps.{no_name_in_empty, looked_up}
+use Rattle.export_names.specs.LookedUp.{IsLookedUp}
+use Rattle.export_names.specs.Names.{name_ref}
+use Rattle.export_names.specs.Params as turned
 use Rattle.export_names.specs.Lists.{Lists, lists_of}
 use Rattle.export_names.specs.Members.{member_ids}
 use Rattle.export_names.specs.TriggerRefs.{built_in_triggers, built_in_trigger, trigger_ref}
@@ -53,7 +53,7 @@ or_later P here true later h rest = h
 or_later P here false later h rest = rest
 
 -- what a word of a table stands for has what all of its words have
-among_has : {W : Type 0} (P : W → Type 0) (table : List (List ℕ × W)) (word : List ℕ)
+pub among_has : {W : Type 0} (P : W → Type 0) (table : List (List ℕ × W)) (word : List ℕ)
     → AllByRecursion (λ pair. P pair.1) table → IfSome (among table word) P
 among_has P [] word all = tt
 among_has P (pair ∷ table) word all =
@@ -222,11 +222,11 @@ module _ (readings : List TemplateReading) (written : WrittenEntries)
   custom_kind_by kind None h = tt
   custom_kind_by kind (Some at) h = h
 
-  variable_kind_in : (kind : List ℕ) → IsVariableKindIn made (variables.kind_of lists.types kind)
+  variable_kind_in : (kind : List ℕ) → IsVariableKindIn made (variables.variable_kind lists.types kind)
   variable_kind_in kind =
-      or_else (IsVariableKindIn made) (among variables.kind_words kind)
+      or_else (IsVariableKindIn made) (among variables.variable_words kind)
       (variables.custom_kind lists.types kind)
-      (among_has (IsVariableKindIn made) variables.kind_words kind
+      (among_has (IsVariableKindIn made) variables.variable_words kind
       (tt, (tt, (tt, (tt, (tt, (tt, (tt, (tt, (tt, tt))))))))))
       (custom_kind_by kind (template_at lists.types kind) (template_within kind))
 

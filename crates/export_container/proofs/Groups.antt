@@ -4,12 +4,12 @@ use Rattle.std.specs.Prelude.{Option, Some, None, if◌then◌else◌, unwrap_or
 use Rattle.std.specs.Option.{option_map_or}
 use Rattle.std.specs.Str.{bytes_eq}
 use Rattle.std.proofs.lemmas.Slice.Eq.{bytes_eq-Decides}
-use Rattle.export_fields.specs.Words.{among, folded}
+use Rattle.folded_words.specs.Words.{among, folded}
 use Rattle.export_entries.specs.declared.triggers.WrittenTrigger.{WrittenTrigger}
 use Rattle.export_model.specs.declared.triggers.TriggerKind.{TriggerKind}
 use Rattle.export_model.specs.declared.triggers.TriggerKind.TheVariants.{Event, Custom, Group}
 use Rattle.export_model.specs.declared.triggers.TriggerKind.TheVariants.{Never}
-use Rattle.export_container.specs.Triggers.{event_words, event_kind, timer_event, kind_of}
+use Rattle.export_container.specs.Triggers.{event_words, event_kind, timer_event, trigger_kind}
 use Rattle.export_container.specs.Triggers.{is_group_kind}
 use Rattle.export_names.specs.Members.{is_group}
 
@@ -36,7 +36,7 @@ no_group kind None = refl
 no_group kind (Some event) = refl
 
 -- a trigger is a group exactly where its kind is that of groups
-pub group_by_kind : (written : WrittenTrigger) → is_group written ≡ is_group_kind (kind_of written)
+pub group_by_kind : (written : WrittenTrigger) → is_group written ≡ is_group_kind (trigger_kind written)
 group_by_kind written =
     let word = folded written.kind in
     by_tests (bytes_eq word (codes "timer")) (bytes_eq word (codes "customevent"))

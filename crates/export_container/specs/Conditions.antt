@@ -2,7 +2,7 @@
 use Rattle.std.specs.Prelude.{ℕ, List, [], ◌∷◌, ◌++◌, Bool, false, map, unwrap_or, codes}
 use Rattle.std.specs.Option.{option_map_or}
 use Rattle.std.specs.Str.{bytes_eq}
-use Rattle.export_fields.specs.Words.{among, folded}
+use Rattle.folded_words.specs.Words.{among, folded}
 use Rattle.export_fields.specs.declared.params.WrittenParam.{WrittenParam}
 use Rattle.export_entries.specs.declared.conditions.WrittenCondition.{WrittenCondition}
 use Rattle.export_entries.specs.declared.triggers.WrittenTrigger.{WrittenTrigger}
@@ -15,8 +15,8 @@ use Rattle.export_model.specs.declared.conditions.Op.TheVariants.{LessOrEquals, 
 use Rattle.export_model.specs.declared.params.Param.{Param}
 use Rattle.export_model.specs.declared.params.ParamValue.{roll-ParamValue}
 use Rattle.export_model.specs.declared.params.ParamValue.TheOpen.{ParamValue-F}
-use Rattle.export_params.specs.Names.{NameLists}
-use Rattle.export_params.specs.Params.{param_of}
+use Rattle.export_names.specs.Names.{NameLists}
+use Rattle.export_names.specs.Params.{param_of}
 use Rattle.export_names.specs.Values.{value_of, first_with}
 
 -- the comparisons, by their words

@@ -19,15 +19,15 @@ use Rattle.export_model.specs.declared.tags.Sequence.{Sequence}
 use Rattle.export_model.specs.declared.tags.Tag.{Tag}
 use Rattle.export_model.specs.declared.tags.TagKind.{TagKind}
 use Rattle.export_model.specs.declared.tags.TagKind.TheVariants.{Template, Opaque}
-use Rattle.export_params.specs.Params.{params_of}
+use Rattle.export_names.specs.Params.{params_of}
 use Rattle.export_names.specs.Lists.{Lists}
 use Rattle.export_names.specs.TriggerRefs.{trigger_refs}
 use Rattle.export_names.specs.Types.{TypeLists, template_at}
 use Rattle.export_names.specs.Values.{value_of, values_of}
 
 -- what a tag of this type runs: the first template that the type uses, else none that is known
-abbrev pub kind_of : TypeLists → List ℕ → TagKind
-kind_of types kind = option_map_or Template (template_at types kind) (Opaque kind)
+abbrev pub tag_kind : TypeLists → List ℕ → TagKind
+tag_kind types kind = option_map_or Template (template_at types kind) (Opaque kind)
 
 -- the priority of a tag: 0 where there is none, or it is no whole number
 abbrev pub priority_of : Option WrittenParam → ℤ
@@ -75,7 +75,7 @@ abbrev pub tag_of : Lists → WrittenTag → Tag
 tag_of lists tag = record {
   id = tag.id;
   name = tag.name;
-  kind = kind_of lists.types tag.kind;
+  kind = tag_kind lists.types tag.kind;
   params = params_of lists.names tag.params;
   firing = trigger_refs lists.triggers tag.firing;
   blocking = trigger_refs lists.triggers tag.blocking;

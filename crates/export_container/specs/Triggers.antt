@@ -3,7 +3,7 @@ use Rattle.std.specs.Prelude.{ℕ, List, [], ◌∷◌, Bool, true, false, Optio
 use Rattle.std.specs.Prelude.{if◌then◌else◌, unwrap_or, codes}
 use Rattle.std.specs.Option.{option_map_or}
 use Rattle.std.specs.Str.{bytes_eq}
-use Rattle.export_fields.specs.Words.{among, folded}
+use Rattle.folded_words.specs.Words.{among, folded}
 use Rattle.export_fields.specs.declared.params.WrittenParam.{WrittenParam, out-WrittenParam}
 use Rattle.export_entries.specs.declared.triggers.WrittenTrigger.{WrittenTrigger}
 use Rattle.export_model.specs.declared.triggers.TriggerKind.{TriggerKind}
@@ -41,8 +41,8 @@ timer_event None = codes "gtm.timer"
 timer_event (Some param) = if is_filled param then value_of param else codes "gtm.timer"
 
 -- the kinds of triggers that hold at no event of their own, with the name of a timer's events
-abbrev pub kind_words : List ℕ → List (List ℕ × TriggerKind)
-kind_words timer =
+abbrev pub trigger_words : List ℕ → List (List ℕ × TriggerKind)
+trigger_words timer =
     (codes "timer", Event timer) ∷ (codes "customevent", Custom) ∷ (codes "triggergroup", Group)
     ∷ []
 
@@ -51,10 +51,10 @@ abbrev pub event_kind : List ℕ → List ℕ → TriggerKind
 event_kind kind word = option_map_or Event (among event_words word) (Never kind)
 
 -- when a trigger is looked at, by its folded type
-abbrev pub kind_of : WrittenTrigger → TriggerKind
-kind_of written =
+abbrev pub trigger_kind : WrittenTrigger → TriggerKind
+trigger_kind written =
     let word = folded written.kind in
-    unwrap_or (among (kind_words (timer_event written.event_name)) word)
+    unwrap_or (among (trigger_words (timer_event written.event_name)) word)
     (event_kind written.kind word)
 
 -- a kind is that of groups

@@ -2,7 +2,7 @@
 use Rattle.std.specs.Prelude.{ℕ, List, [], ◌∷◌, Bool, true, false, Option, Some, None, option_map}
 use Rattle.std.specs.Prelude.{unwrap_or, codes}
 use Rattle.std.specs.Option.{option_map_or}
-use Rattle.export_fields.specs.Words.{among}
+use Rattle.folded_words.specs.Words.{among}
 use Rattle.export_entries.specs.declared.formats.WrittenCase.{WrittenCase}
 use Rattle.export_entries.specs.declared.formats.WrittenCase.TheVariants.{AsItIs, Lower, Upper}
 use Rattle.export_entries.specs.declared.formats.WrittenFormat.{WrittenFormat}
@@ -15,14 +15,14 @@ use Rattle.export_model.specs.declared.variables.VariableKind.TheVariants.{Globa
 use Rattle.export_model.specs.declared.variables.VariableKind.TheVariants.{EventName, Lookup}
 use Rattle.export_model.specs.declared.variables.VariableKind.TheVariants.{RegexTable, Template}
 use Rattle.export_model.specs.declared.variables.VariableKind.TheVariants.{Unknown}
-use Rattle.export_params.specs.Names.{NameLists}
-use Rattle.export_params.specs.Params.{param_of, params_of}
+use Rattle.export_names.specs.Names.{NameLists}
+use Rattle.export_names.specs.Params.{param_of, params_of}
 use Rattle.export_names.specs.Lists.{Lists}
 use Rattle.export_names.specs.Types.{TypeLists, template_at}
 
 -- the kinds of variables that are built, by their types
-abbrev pub kind_words : List (List ℕ × VariableKind)
-kind_words =
+abbrev pub variable_words : List (List ℕ × VariableKind)
+variable_words =
     (codes "v", Layer)
     ∷ (codes "c", Constant)
     ∷ (codes "k", Cookie)
@@ -39,8 +39,8 @@ abbrev pub custom_kind : TypeLists → List ℕ → VariableKind
 custom_kind types kind = option_map_or Template (template_at types kind) (Unknown kind)
 
 -- the kind of a variable of this type
-abbrev pub kind_of : TypeLists → List ℕ → VariableKind
-kind_of types kind = unwrap_or (among kind_words kind) (custom_kind types kind)
+abbrev pub variable_kind : TypeLists → List ℕ → VariableKind
+variable_kind types kind = unwrap_or (among variable_words kind) (custom_kind types kind)
 
 -- a text is lower-cased
 abbrev pub is_lower : WrittenCase → Bool
@@ -72,7 +72,7 @@ abbrev pub variable_of : Lists → WrittenVariable → Variable
 variable_of lists written = record {
   id = written.id;
   name = written.name;
-  kind = kind_of lists.types written.kind;
+  kind = variable_kind lists.types written.kind;
   params = params_of lists.names written.params;
   format = format_of lists.names written.format;
 }

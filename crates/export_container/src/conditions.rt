@@ -1,14 +1,14 @@
 ghost use Rattle.std.specs.Prelude.{◌≡◌, ◌++◌, map, IfOk, OnOk, IsTrue};
-ghost use Rattle.export_fields.specs.Words.{among};
+ghost use Rattle.folded_words.specs.Words.{among};
 ghost use Rattle.gtm_base.specs.Ascii.{is_all_ascii};
 ghost use Rattle.export_container.specs.Conditions.{op_words, op_of, empty_param, side_of, is_on};
 ghost use Rattle.export_container.specs.Conditions.{condition_of, conditions_of};
 
 use export_entries::{WrittenCondition, WrittenConditions, WrittenTrigger};
-use export_fields::{WrittenParams, folded};
+use export_fields::WrittenParams;
 use export_model::{Condition, Conditions, Op, Param, ParamValue, Pieces};
-use export_names::{first_with, text_of};
-use export_params::{Names, param_of};
+use export_names::{Names, first_with, param_of, word_text};
+use folded_words::folded;
 use gtm_base::{OutOfMemory, Text};
 use std::alloc::Global;
 
@@ -121,7 +121,7 @@ fn empty_param(alloc: Global, key: &str) -> Result<Param, OutOfMemory>
     requires { IsTrue (is_all_ascii key.now) }
     ensures { IfOk result (λ made. made ≡ empty_param key.now) }
 {
-    let key = text_of(alloc, key)?;
+    let key = word_text(alloc, key)?;
     Ok(Param {
         key,
         value: ParamValue::Template(Pieces::new(alloc)),

@@ -7,7 +7,7 @@ ghost use Rattle.export_container.specs.Container.{container_of};
 ghost use Rattle.export_container.specs.References.{each_once, IsEachOnce};
 ghost use Rattle.export_container.specs.Templates.{AreRead};
 ghost use Rattle.export_templates.specs.declared.readings.TemplateReading.{TemplateReading};
-ghost use Rattle.export_container.specs.Triggers.{kind_of, is_group_kind};
+ghost use Rattle.export_container.specs.Triggers.{trigger_kind, is_group_kind};
 ghost use Rattle.export_names.specs.Members.{is_group};
 
 /// A law, with nothing to call: of texts that are told each once none stands twice, they are those
@@ -19,7 +19,7 @@ pub fn each_text_is_told_once()
 /// A law, with nothing to call: a trigger has the members of a group exactly where its kind is that
 /// of groups.
 pub fn a_group_is_known_by_its_kind()
-    ensures { (written : WrittenTrigger) → is_group written ≡ is_group_kind (kind_of written) }
+    ensures { (written : WrittenTrigger) → is_group written ≡ is_group_kind (trigger_kind written) }
 {}
 
 /// A law, with nothing to call: in the container of any entries, with a reading for each template,

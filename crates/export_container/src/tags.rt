@@ -1,11 +1,10 @@
 ghost use Rattle.std.specs.Prelude.{◌≡◌, map, IfOk};
-ghost use Rattle.export_container.specs.Tags.{kind_of, tag_of};
+ghost use Rattle.export_container.specs.Tags.{tag_kind, tag_of};
 
 use crate::turns::{consent_of, option_of, priority_of, setup_of, teardown_of};
 use export_entries::{WrittenTag, WrittenTags};
 use export_model::{Tag, TagKind, Tags};
-use export_names::{Known, TemplateTypes, trigger_refs};
-use export_params::params_of;
+use export_names::{Known, TemplateTypes, params_of, trigger_refs};
 use gtm_base::{OutOfMemory, Text};
 use std::alloc::Global;
 
@@ -26,7 +25,7 @@ fn tag_of(alloc: Global, known: &Known, written: &WrittenTag) -> Result<Tag, Out
 {
     let id = written.id.copy(alloc)?;
     let name = written.name.copy(alloc)?;
-    let kind = kind_of(alloc, &known.types, &written.kind)?;
+    let kind = tag_kind(alloc, &known.types, &written.kind)?;
     let params = params_of(alloc, &known.names, &written.params)?;
     let firing = trigger_refs(alloc, &known.triggers, &written.firing)?;
     let blocking = trigger_refs(alloc, &known.triggers, &written.blocking)?;
@@ -50,8 +49,8 @@ fn tag_of(alloc: Global, known: &Known, written: &WrittenTag) -> Result<Tag, Out
 }
 
 // What a tag of this type runs.
-fn kind_of(alloc: Global, types: &TemplateTypes, kind: &Text) -> Result<TagKind, OutOfMemory>
-    ensures { IfOk result (λ made. made ≡ kind_of types.now kind.now) }
+fn tag_kind(alloc: Global, types: &TemplateTypes, kind: &Text) -> Result<TagKind, OutOfMemory>
+    ensures { IfOk result (λ made. made ≡ tag_kind types.now kind.now) }
 {
     match types.template(kind) {
         Some(at) => Ok(TagKind::Template(at)),

@@ -1,20 +1,21 @@
 ghost use Rattle.std.specs.Prelude.{◌≡◌, option_map, IfOk, IfSome, IsTrue};
 ghost use Rattle.gtm_base.specs.Ascii.{is_all_ascii};
-ghost use Rattle.export_fields.specs.Words.{among};
+ghost use Rattle.folded_words.specs.Words.{among};
 ghost use Rattle.export_container.specs.Triggers.{event_words, is_filled, timer_event, event_kind};
-ghost use Rattle.export_container.specs.Triggers.{kind_of};
+ghost use Rattle.export_container.specs.Triggers.{trigger_kind};
 
 use export_entries::WrittenTrigger;
-use export_fields::{ParamKind, WrittenParam, folded};
+use export_fields::{ParamKind, WrittenParam};
 use export_model::TriggerKind;
-use export_names::text_of;
+use export_names::word_text;
+use folded_words::folded;
 use gtm_base::{OutOfMemory, Text};
 use std::alloc::Global;
 
 /// When a trigger is looked at, by its type without underscores and in lower case. Fails where
 /// memory is wanting.
-pub fn kind_of(alloc: Global, written: &WrittenTrigger) -> Result<TriggerKind, OutOfMemory>
-    ensures { IfOk result (λ made. made ≡ kind_of written.now) }
+pub fn trigger_kind(alloc: Global, written: &WrittenTrigger) -> Result<TriggerKind, OutOfMemory>
+    ensures { IfOk result (λ made. made ≡ trigger_kind written.now) }
 {
     let word = folded(alloc, written.kind.as_str())?;
     if word.is_word("timer") {
@@ -33,7 +34,7 @@ fn event_kind(alloc: Global, kind: &Text, word: &Text) -> Result<TriggerKind, Ou
     ensures { IfOk result (λ made. made ≡ event_kind kind.now word.now) }
 {
     match event_named(word) {
-        Some(event) => Ok(TriggerKind::Event(text_of(alloc, event)?)),
+        Some(event) => Ok(TriggerKind::Event(word_text(alloc, event)?)),
         None => Ok(TriggerKind::Never(kind.copy(alloc)?)),
     }
 }
@@ -80,7 +81,7 @@ fn timer_event(alloc: Global, event_name: &Option<WrittenParam>) -> Result<Text,
 {
     match event_name {
         Some(param) if is_filled(param) => param.value.copy(alloc),
-        _ => text_of(alloc, "gtm.timer"),
+        _ => word_text(alloc, "gtm.timer"),
     }
 }
 

@@ -2,7 +2,7 @@ ghost use Rattle.std.specs.Prelude.{◌≡◌, map, IfOk};
 ghost use Rattle.export_container.specs.TriggerEntries.{trigger_of};
 
 use crate::conditions::conditions_of;
-use crate::trigger_kinds::kind_of;
+use crate::trigger_kinds::trigger_kind;
 use export_entries::{WrittenTrigger, WrittenTriggers};
 use export_model::{Trigger, Triggers};
 use export_names::{Known, member_params, param_refs};
@@ -34,7 +34,7 @@ fn trigger_of(
 {
     let id = written.id.copy(alloc)?;
     let name = written.name.copy(alloc)?;
-    let kind = kind_of(alloc, written)?;
+    let kind = trigger_kind(alloc, written)?;
     let conditions = conditions_of(alloc, &known.names, written)?;
     let params = member_params(alloc, written)?;
     let members = param_refs(alloc, &known.triggers, params)?;

@@ -1,14 +1,13 @@
 ghost use Rattle.std.specs.Prelude.{◌≡◌, map, option_map, IfOk};
-ghost use Rattle.export_fields.specs.Words.{among};
-ghost use Rattle.export_params.specs.Params.{param_of};
-ghost use Rattle.export_container.specs.Variables.{kind_words, custom_kind, kind_of, is_lower};
-ghost use Rattle.export_container.specs.Variables.{is_upper, format_of, variable_of};
+ghost use Rattle.folded_words.specs.Words.{among};
+ghost use Rattle.export_names.specs.Params.{param_of};
+ghost use Rattle.export_container.specs.Variables.{variable_words, custom_kind, variable_kind};
+ghost use Rattle.export_container.specs.Variables.{is_lower, is_upper, format_of, variable_of};
 
 use export_entries::{WrittenCase, WrittenFormat, WrittenVariable, WrittenVariables};
 use export_fields::WrittenParam;
 use export_model::{Format, Param, Variable, VariableKind, Variables};
-use export_names::{Known, TemplateTypes};
-use export_params::{Names, param_of, params_of};
+use export_names::{Known, Names, TemplateTypes, param_of, params_of};
 use gtm_base::{OutOfMemory, Text};
 use std::alloc::Global;
 
@@ -37,7 +36,7 @@ fn variable_of(
 {
     let id = written.id.copy(alloc)?;
     let name = written.name.copy(alloc)?;
-    let kind = kind_of(alloc, &known.types, &written.kind)?;
+    let kind = variable_kind(alloc, &known.types, &written.kind)?;
     let params = params_of(alloc, &known.names, &written.params)?;
     let format = format_of(alloc, &known.names, &written.format)?;
     Ok(Variable {
@@ -50,8 +49,12 @@ fn variable_of(
 }
 
 // The kind of a variable of this type.
-fn kind_of(alloc: Global, types: &TemplateTypes, kind: &Text) -> Result<VariableKind, OutOfMemory>
-    ensures { IfOk result (λ made. made ≡ kind_of types.now kind.now) }
+fn variable_kind(
+    alloc: Global,
+    types: &TemplateTypes,
+    kind: &Text,
+) -> Result<VariableKind, OutOfMemory>
+    ensures { IfOk result (λ made. made ≡ variable_kind types.now kind.now) }
 {
     match kind_named(kind) {
         Some(named) => Ok(named),
@@ -75,7 +78,7 @@ fn custom_kind(
 
 // The kind that a type stands for by itself.
 fn kind_named(kind: &Text) -> Option<VariableKind>
-    ensures { result ≡ among kind_words kind.now }
+    ensures { result ≡ among variable_words kind.now }
 {
     if kind.is_word("v") {
         Some(VariableKind::Layer)

@@ -15,8 +15,8 @@ condition_fault d =
     then list_fault not_param (codes "parameter") d
 
 -- the condition that a value stands for
-unfoldable pub condition_of : Data → WrittenCondition
-condition_of d = record {
+unfoldable pub written_condition : Data → WrittenCondition
+written_condition d = record {
   kind = text_at (codes "type") d;
   params = list_at as_param (codes "parameter") d;
 }

@@ -5,10 +5,10 @@ use Rattle.export_fields.specs.Fault.{◌then◌}
 use Rattle.export_fields.specs.Fields.{not_object, not_text, as_text, text_fault, text_at}
 use Rattle.export_fields.specs.ListOf.{list_fault, list_at}
 use Rattle.export_fields.specs.Objects.{object_fault, object_at}
-use Rattle.export_entries.specs.Tags.{tag_fault, tag_of}
-use Rattle.export_entries.specs.Templates.{template_fault, template_of}
-use Rattle.export_entries.specs.Triggers.{trigger_fault, trigger_of}
-use Rattle.export_entries.specs.Variables.{variable_fault, variable_of, built_in_fault, built_in_of}
+use Rattle.export_entries.specs.Tags.{tag_fault, written_tag}
+use Rattle.export_entries.specs.Templates.{template_fault, written_template}
+use Rattle.export_entries.specs.Triggers.{trigger_fault, written_trigger}
+use Rattle.export_entries.specs.Variables.{variable_fault, written_variable, built_in_fault, written_built_in}
 use Rattle.export_entries.specs.declared.entries.WrittenContainer.{WrittenContainer}
 use Rattle.export_entries.specs.declared.entries.WrittenEntries.{WrittenEntries}
 
@@ -20,8 +20,8 @@ container_fault d =
     then list_fault not_text (codes "usageContext") d
 
 -- what an export says of its container itself
-unfoldable pub container_of : Data → WrittenContainer
-container_of d = record {
+unfoldable pub written_container : Data → WrittenContainer
+written_container d = record {
   public_id = text_at (codes "publicId") d;
   contexts = list_at as_text (codes "usageContext") d;
 }
@@ -38,13 +38,13 @@ entries_fault d =
     then list_fault template_fault (codes "customTemplate") d
 
 -- the entries of a container version
-unfoldable pub entries_of : Data → WrittenEntries
-entries_of d = record {
+unfoldable pub written_entries : Data → WrittenEntries
+written_entries d = record {
   version_id = text_at (codes "containerVersionId") d;
-  container = object_at container_of (codes "container") d;
-  tags = list_at tag_of (codes "tag") d;
-  triggers = list_at trigger_of (codes "trigger") d;
-  variables = list_at variable_of (codes "variable") d;
-  built_ins = list_at built_in_of (codes "builtInVariable") d;
-  templates = list_at template_of (codes "customTemplate") d;
+  container = object_at written_container (codes "container") d;
+  tags = list_at written_tag (codes "tag") d;
+  triggers = list_at written_trigger (codes "trigger") d;
+  variables = list_at written_variable (codes "variable") d;
+  built_ins = list_at written_built_in (codes "builtInVariable") d;
+  templates = list_at written_template (codes "customTemplate") d;
 }

@@ -5,7 +5,8 @@ use Rattle.export_fields.specs.Fault.{◌then◌}
 use Rattle.export_fields.specs.Fields.{not_object}
 use Rattle.export_fields.specs.Objects.{object_fault, object_at}
 use Rattle.export_fields.specs.Params.{not_param, as_param}
-use Rattle.export_fields.specs.Words.{among, word_fault, word_at}
+use Rattle.export_fields.specs.Words.{word_fault, word_at}
+use Rattle.folded_words.specs.Words.{among}
 use Rattle.export_entries.specs.declared.formats.WrittenCase.{WrittenCase}
 use Rattle.export_entries.specs.declared.formats.WrittenCase.TheVariants.{AsItIs, Lower, Upper}
 use Rattle.export_entries.specs.declared.formats.WrittenFormat.{WrittenFormat}
@@ -26,8 +27,8 @@ format_fault d =
     then object_fault not_param (codes "convertFalseToValue") d
 
 -- the format that a value stands for
-unfoldable pub format_of : Data → WrittenFormat
-format_of d = record {
+unfoldable pub written_format : Data → WrittenFormat
+written_format d = record {
   case = word_at case_named AsItIs (codes "caseConversionType") d;
   null = object_at as_param (codes "convertNullToValue") d;
   undefined = object_at as_param (codes "convertUndefinedToValue") d;

@@ -7,7 +7,7 @@ use Rattle.export_fields.specs.ListOf.{list_fault, list_at}
 use Rattle.export_fields.specs.Objects.{object_fault, object_at}
 use Rattle.export_fields.specs.Params.{not_param, as_param}
 use Rattle.export_entries.specs.declared.tags.WrittenTag.{WrittenTag}
-use Rattle.export_entries.specs.Turns.{turn_fault, turn_of}
+use Rattle.export_entries.specs.Turns.{turn_fault, written_turn}
 
 -- the fault of a tag
 unfoldable pub tag_fault : Data → Option (List ℕ)
@@ -23,8 +23,8 @@ tag_fault d =
     then turn_fault d
 
 -- the tag that a value stands for
-unfoldable pub tag_of : Data → WrittenTag
-tag_of d = record {
+unfoldable pub written_tag : Data → WrittenTag
+written_tag d = record {
   id = text_at (codes "tagId") d;
   name = text_at (codes "name") d;
   kind = text_at (codes "type") d;
@@ -32,5 +32,5 @@ tag_of d = record {
   firing = list_at as_text (codes "firingTriggerId") d;
   blocking = list_at as_text (codes "blockingTriggerId") d;
   priority = object_at as_param (codes "priority") d;
-  turn = turn_of d;
+  turn = written_turn d;
 }

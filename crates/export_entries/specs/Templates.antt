@@ -15,8 +15,8 @@ gallery_fault d =
     then object_fault not_text (codes "galleryTemplateId") d
 
 -- where a template came from
-unfoldable pub gallery_of : Data → WrittenGallery
-gallery_of d = record { id = object_at as_text (codes "galleryTemplateId") d }
+unfoldable pub written_gallery : Data → WrittenGallery
+written_gallery d = record { id = object_at as_text (codes "galleryTemplateId") d }
 
 -- the fault of a template
 unfoldable pub template_fault : Data → Option (List ℕ)
@@ -29,11 +29,11 @@ template_fault d =
     then object_fault gallery_fault (codes "galleryReference") d
 
 -- the template that a value stands for
-unfoldable pub template_of : Data → WrittenTemplate
-template_of d = record {
+unfoldable pub written_template : Data → WrittenTemplate
+written_template d = record {
   id = text_at (codes "templateId") d;
   sections = text_at (codes "templateData") d;
   container = text_at (codes "containerId") d;
   name = text_at (codes "name") d;
-  gallery = object_at gallery_of (codes "galleryReference") d;
+  gallery = object_at written_gallery (codes "galleryReference") d;
 }

@@ -6,7 +6,7 @@ use Rattle.export_fields.specs.Fields.{not_object, required_text_fault, text_fau
 use Rattle.export_fields.specs.ListOf.{list_fault, list_at}
 use Rattle.export_fields.specs.Objects.{object_fault, object_at}
 use Rattle.export_fields.specs.Params.{not_param, as_param}
-use Rattle.export_entries.specs.Conditions.{condition_fault, condition_of}
+use Rattle.export_entries.specs.Conditions.{condition_fault, written_condition}
 use Rattle.export_entries.specs.declared.triggers.WrittenTrigger.{WrittenTrigger}
 
 -- the fault of a trigger
@@ -23,14 +23,14 @@ trigger_fault d =
     then list_fault not_param (codes "parameter") d
 
 -- the trigger that a value stands for
-unfoldable pub trigger_of : Data → WrittenTrigger
-trigger_of d = record {
+unfoldable pub written_trigger : Data → WrittenTrigger
+written_trigger d = record {
   id = text_at (codes "triggerId") d;
   kind = text_at (codes "type") d;
   name = text_at (codes "name") d;
-  custom = list_at condition_of (codes "customEventFilter") d;
-  filter = list_at condition_of (codes "filter") d;
-  auto = list_at condition_of (codes "autoEventFilter") d;
+  custom = list_at written_condition (codes "customEventFilter") d;
+  filter = list_at written_condition (codes "filter") d;
+  auto = list_at written_condition (codes "autoEventFilter") d;
   event_name = object_at as_param (codes "eventName") d;
   params = list_at as_param (codes "parameter") d;
 }

@@ -6,7 +6,8 @@ use Rattle.export_fields.specs.Fields.{not_object, text_fault, text_at, flag_fau
 use Rattle.export_fields.specs.Numbers.{whole_fault, whole_at}
 use Rattle.export_fields.specs.Objects.{object_fault, object_at, single_fault, single_at}
 use Rattle.export_fields.specs.Params.{not_param, as_param}
-use Rattle.export_fields.specs.Words.{among, word_fault, word_at}
+use Rattle.export_fields.specs.Words.{word_fault, word_at}
+use Rattle.folded_words.specs.Words.{among}
 use Rattle.export_fields.specs.declared.params.ParamKind.{ParamKind}
 use Rattle.export_fields.specs.declared.params.ParamKind.TheVariants as kinds
 use Rattle.export_fields.specs.declared.params.WrittenParam.{out-WrittenParam}
@@ -41,8 +42,8 @@ setup_fault d =
     then flag_fault (codes "stopOnSetupFailure") d
 
 -- the setup tag that a value stands for
-unfoldable pub setup_of : Data → WrittenSetup
-setup_of d = record {
+unfoldable pub written_setup : Data → WrittenSetup
+written_setup d = record {
   tag = text_at (codes "tagName") d;
   stop = flag_at (codes "stopOnSetupFailure") d;
 }
@@ -55,8 +56,8 @@ teardown_fault d =
     then flag_fault (codes "stopTeardownOnFailure") d
 
 -- the teardown tag that a value stands for
-unfoldable pub teardown_of : Data → WrittenTeardown
-teardown_of d = record {
+unfoldable pub written_teardown : Data → WrittenTeardown
+written_teardown d = record {
   tag = text_at (codes "tagName") d;
   stop = flag_at (codes "stopTeardownOnFailure") d;
 }
@@ -76,8 +77,8 @@ unfoldable pub listed_fault : Data → Option (List ℕ)
 listed_fault d = not_param d then kind_fault (out-WrittenParam (as_param d)).kind
 
 -- the LIST that a value stands for
-unfoldable pub listed_of : Data → WrittenList
-listed_of d = record { items = (out-WrittenParam (as_param d)).list }
+unfoldable pub written_list : Data → WrittenList
+written_list d = record { items = (out-WrittenParam (as_param d)).list }
 
 -- the fault of what a tag says of consent
 unfoldable pub consent_fault : Data → Option (List ℕ)
@@ -87,10 +88,10 @@ consent_fault d =
     then object_fault listed_fault (codes "consentType") d
 
 -- what a tag says of consent
-unfoldable pub consent_of : Data → WrittenConsent
-consent_of d = record {
+unfoldable pub written_consent : Data → WrittenConsent
+written_consent d = record {
   status = word_at status_named NotSet (codes "consentStatus") d;
-  types = object_at listed_of (codes "consentType") d;
+  types = object_at written_list (codes "consentType") d;
 }
 
 -- the fault of what a tag says of its turn
@@ -105,13 +106,13 @@ turn_fault d =
     then object_fault consent_fault (codes "consentSettings") d
 
 -- what a tag says of its turn
-unfoldable pub turn_of : Data → WrittenTurn
-turn_of d = record {
+unfoldable pub written_turn : Data → WrittenTurn
+written_turn d = record {
   option = word_at option_named OncePerEvent (codes "tagFiringOption") d;
-  setup = single_at setup_of (codes "setupTag") d;
-  teardown = single_at teardown_of (codes "teardownTag") d;
+  setup = single_at written_setup (codes "setupTag") d;
+  teardown = single_at written_teardown (codes "teardownTag") d;
   paused = flag_at (codes "paused") d;
   from_ms = whole_at (codes "scheduleStartMs") d;
   until_ms = whole_at (codes "scheduleEndMs") d;
-  consent = object_at consent_of (codes "consentSettings") d;
+  consent = object_at written_consent (codes "consentSettings") d;
 }

@@ -6,7 +6,7 @@ use Rattle.export_fields.specs.Fields.{not_object, required_text_fault, text_at}
 use Rattle.export_fields.specs.ListOf.{list_fault, list_at}
 use Rattle.export_fields.specs.Objects.{object_fault, object_at}
 use Rattle.export_fields.specs.Params.{not_param, as_param}
-use Rattle.export_entries.specs.Formats.{format_fault, format_of}
+use Rattle.export_entries.specs.Formats.{format_fault, written_format}
 use Rattle.export_entries.specs.declared.variables.WrittenBuiltIn.{WrittenBuiltIn}
 use Rattle.export_entries.specs.declared.variables.WrittenVariable.{WrittenVariable}
 
@@ -21,13 +21,13 @@ variable_fault d =
     then object_fault format_fault (codes "formatValue") d
 
 -- the variable that a value stands for
-unfoldable pub variable_of : Data → WrittenVariable
-variable_of d = record {
+unfoldable pub written_variable : Data → WrittenVariable
+written_variable d = record {
   id = text_at (codes "variableId") d;
   name = text_at (codes "name") d;
   kind = text_at (codes "type") d;
   params = list_at as_param (codes "parameter") d;
-  format = object_at format_of (codes "formatValue") d;
+  format = object_at written_format (codes "formatValue") d;
 }
 
 -- the fault of a built-in variable
@@ -38,8 +38,8 @@ built_in_fault d =
     then required_text_fault (codes "name") d
 
 -- the built-in variable that a value stands for
-unfoldable pub built_in_of : Data → WrittenBuiltIn
-built_in_of d = record {
+unfoldable pub written_built_in : Data → WrittenBuiltIn
+written_built_in d = record {
   kind = text_at (codes "type") d;
   name = text_at (codes "name") d;
 }

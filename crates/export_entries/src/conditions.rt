@@ -19,13 +19,13 @@ pub struct WrittenCondition {
 pub type WrittenConditions = ListOf<WrittenCondition>;
 
 impl Entry for WrittenCondition {
-    ghost use Rattle.export_entries.specs.Conditions.{condition_fault, condition_of};
+    ghost use Rattle.export_entries.specs.Conditions.{condition_fault, written_condition};
 
     ghost fault = { condition_fault };
 
-    ghost made = { condition_of };
+    ghost made = { written_condition };
 
-    #[tactic(auto, unfolding(crate::specs::Conditions::condition_fault, crate::specs::Conditions::condition_of))]
+    #[tactic(auto, unfolding(crate::specs::Conditions::condition_fault, crate::specs::Conditions::written_condition))]
     fn read(alloc: Global, value: &Value) -> Result<WrittenCondition, ReadEnd> {
         object(alloc, value)?;
         let kind = text(alloc, value, "type")?;

@@ -1,7 +1,7 @@
 ghost use Rattle.std.specs.Prelude.{◌≡◌, codes};
 ghost use Rattle.serde_json.specs.View.{view};
 ghost use Rattle.export_fields.specs.Fault.{Reads, Fails};
-ghost use Rattle.export_entries.specs.Entries.{entries_fault, entries_of};
+ghost use Rattle.export_entries.specs.Entries.{entries_fault, written_entries};
 
 use crate::tags::WrittenTags;
 use crate::templates::WrittenTemplates;
@@ -20,13 +20,13 @@ pub struct WrittenContainer {
 }
 
 impl Entry for WrittenContainer {
-    ghost use Rattle.export_entries.specs.Entries.{container_fault, container_of};
+    ghost use Rattle.export_entries.specs.Entries.{container_fault, written_container};
 
     ghost fault = { container_fault };
 
-    ghost made = { container_of };
+    ghost made = { written_container };
 
-    #[tactic(auto, unfolding(crate::specs::Entries::container_fault, crate::specs::Entries::container_of))]
+    #[tactic(auto, unfolding(crate::specs::Entries::container_fault, crate::specs::Entries::written_container))]
     fn read(alloc: Global, value: &Value) -> Result<WrittenContainer, ReadEnd> {
         object(alloc, value)?;
         let public_id = text(alloc, value, "publicId")?;
@@ -53,9 +53,9 @@ pub struct WrittenEntries {
 /// The entries of a container version, an object. `Broken` comes at the first field that has
 /// another kind than it needs: first its own fields, then those of the container, and then those of
 /// the tags, triggers, variables, built-in variables and custom templates.
-#[tactic(auto, unfolding(crate::specs::Entries::entries_fault, crate::specs::Entries::entries_of))]
+#[tactic(auto, unfolding(crate::specs::Entries::entries_fault, crate::specs::Entries::written_entries))]
 pub fn read_entries(alloc: Global, version: &Value) -> Result<WrittenEntries, ReadEnd>
-    ensures { Reads result (entries_fault (view version.now)) (entries_of (view version.now)) }
+    ensures { Reads result (entries_fault (view version.now)) (written_entries (view version.now)) }
 {
     let version_id = text(alloc, version, "containerVersionId")?;
     let container = object_at(alloc, version, "container")?;

@@ -51,13 +51,13 @@ pub struct WrittenFormat {
 }
 
 impl Entry for WrittenFormat {
-    ghost use Rattle.export_entries.specs.Formats.{format_fault, format_of};
+    ghost use Rattle.export_entries.specs.Formats.{format_fault, written_format};
 
     ghost fault = { format_fault };
 
-    ghost made = { format_of };
+    ghost made = { written_format };
 
-    #[tactic(auto, unfolding(crate::specs::Formats::format_fault, crate::specs::Formats::format_of))]
+    #[tactic(auto, unfolding(crate::specs::Formats::format_fault, crate::specs::Formats::written_format))]
     fn read(alloc: Global, value: &Value) -> Result<WrittenFormat, ReadEnd> {
         object(alloc, value)?;
         let case = word(alloc, value, "caseConversionType")?;

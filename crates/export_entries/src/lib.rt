@@ -2,8 +2,8 @@
 //!
 //! `read_entries` gives all of a container version exactly where each of its fields has its kind,
 //! and else the path of the first one that has another: the definitions `entries_fault` and
-//! `entries_of` of `specs/` say, field by field, what is looked at and what an entry is. Otherwise
-//! only memory can be wanting. Fields that are not named are read past.
+//! `written_entries` of `specs/` say, field by field, what is looked at and what an entry is.
+//! Otherwise only memory can be wanting. Fields that are not named are read past.
 #![tactic(auto)]
 
 mod conditions;

@@ -27,13 +27,13 @@ pub struct WrittenTag {
 pub type WrittenTags = ListOf<WrittenTag>;
 
 impl Entry for WrittenTag {
-    ghost use Rattle.export_entries.specs.Tags.{tag_fault, tag_of};
+    ghost use Rattle.export_entries.specs.Tags.{tag_fault, written_tag};
 
     ghost fault = { tag_fault };
 
-    ghost made = { tag_of };
+    ghost made = { written_tag };
 
-    #[tactic(auto, unfolding(crate::specs::Tags::tag_fault, crate::specs::Tags::tag_of))]
+    #[tactic(auto, unfolding(crate::specs::Tags::tag_fault, crate::specs::Tags::written_tag))]
     fn read(alloc: Global, value: &Value) -> Result<WrittenTag, ReadEnd> {
         object(alloc, value)?;
         let id = required_text(alloc, value, "tagId")?;

@@ -14,13 +14,13 @@ pub struct WrittenGallery {
 }
 
 impl Entry for WrittenGallery {
-    ghost use Rattle.export_entries.specs.Templates.{gallery_fault, gallery_of};
+    ghost use Rattle.export_entries.specs.Templates.{gallery_fault, written_gallery};
 
     ghost fault = { gallery_fault };
 
-    ghost made = { gallery_of };
+    ghost made = { written_gallery };
 
-    #[tactic(auto, unfolding(crate::specs::Templates::gallery_fault, crate::specs::Templates::gallery_of))]
+    #[tactic(auto, unfolding(crate::specs::Templates::gallery_fault, crate::specs::Templates::written_gallery))]
     fn read(alloc: Global, value: &Value) -> Result<WrittenGallery, ReadEnd> {
         object(alloc, value)?;
         let id = object_at(alloc, value, "galleryTemplateId")?;
@@ -42,13 +42,13 @@ pub struct WrittenTemplate {
 pub type WrittenTemplates = ListOf<WrittenTemplate>;
 
 impl Entry for WrittenTemplate {
-    ghost use Rattle.export_entries.specs.Templates.{template_fault, template_of};
+    ghost use Rattle.export_entries.specs.Templates.{template_fault, written_template};
 
     ghost fault = { template_fault };
 
-    ghost made = { template_of };
+    ghost made = { written_template };
 
-    #[tactic(auto, unfolding(crate::specs::Templates::template_fault, crate::specs::Templates::template_of))]
+    #[tactic(auto, unfolding(crate::specs::Templates::template_fault, crate::specs::Templates::written_template))]
     fn read(alloc: Global, value: &Value) -> Result<WrittenTemplate, ReadEnd> {
         object(alloc, value)?;
         let id = required_text(alloc, value, "templateId")?;

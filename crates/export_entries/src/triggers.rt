@@ -29,13 +29,13 @@ pub struct WrittenTrigger {
 pub type WrittenTriggers = ListOf<WrittenTrigger>;
 
 impl Entry for WrittenTrigger {
-    ghost use Rattle.export_entries.specs.Triggers.{trigger_fault, trigger_of};
+    ghost use Rattle.export_entries.specs.Triggers.{trigger_fault, written_trigger};
 
     ghost fault = { trigger_fault };
 
-    ghost made = { trigger_of };
+    ghost made = { written_trigger };
 
-    #[tactic(auto, unfolding(crate::specs::Triggers::trigger_fault, crate::specs::Triggers::trigger_of))]
+    #[tactic(auto, unfolding(crate::specs::Triggers::trigger_fault, crate::specs::Triggers::written_trigger))]
     fn read(alloc: Global, value: &Value) -> Result<WrittenTrigger, ReadEnd> {
         object(alloc, value)?;
         let id = required_text(alloc, value, "triggerId")?;

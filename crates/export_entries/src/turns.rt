@@ -1,7 +1,7 @@
 ghost use Rattle.std.specs.Prelude.{◌≡◌, codes};
 ghost use Rattle.serde_json.specs.View.{view};
 ghost use Rattle.export_fields.specs.Fault.{Reads, Fails};
-ghost use Rattle.export_entries.specs.Turns.{turn_fault, turn_of};
+ghost use Rattle.export_entries.specs.Turns.{turn_fault, written_turn};
 
 use export_fields::{
     Entry, ParamKind, ReadEnd, WordList, WrittenParam, WrittenParams, broken_here, flag, object,
@@ -85,13 +85,13 @@ pub struct WrittenSetup {
 }
 
 impl Entry for WrittenSetup {
-    ghost use Rattle.export_entries.specs.Turns.{setup_fault, setup_of};
+    ghost use Rattle.export_entries.specs.Turns.{setup_fault, written_setup};
 
     ghost fault = { setup_fault };
 
-    ghost made = { setup_of };
+    ghost made = { written_setup };
 
-    #[tactic(auto, unfolding(crate::specs::Turns::setup_fault, crate::specs::Turns::setup_of))]
+    #[tactic(auto, unfolding(crate::specs::Turns::setup_fault, crate::specs::Turns::written_setup))]
     fn read(alloc: Global, value: &Value) -> Result<WrittenSetup, ReadEnd> {
         object(alloc, value)?;
         let tag = text(alloc, value, "tagName")?;
@@ -108,13 +108,13 @@ pub struct WrittenTeardown {
 }
 
 impl Entry for WrittenTeardown {
-    ghost use Rattle.export_entries.specs.Turns.{teardown_fault, teardown_of};
+    ghost use Rattle.export_entries.specs.Turns.{teardown_fault, written_teardown};
 
     ghost fault = { teardown_fault };
 
-    ghost made = { teardown_of };
+    ghost made = { written_teardown };
 
-    #[tactic(auto, unfolding(crate::specs::Turns::teardown_fault, crate::specs::Turns::teardown_of))]
+    #[tactic(auto, unfolding(crate::specs::Turns::teardown_fault, crate::specs::Turns::written_teardown))]
     fn read(alloc: Global, value: &Value) -> Result<WrittenTeardown, ReadEnd> {
         object(alloc, value)?;
         let tag = text(alloc, value, "tagName")?;
@@ -130,13 +130,13 @@ pub struct WrittenList {
 }
 
 impl Entry for WrittenList {
-    ghost use Rattle.export_entries.specs.Turns.{listed_fault, listed_of};
+    ghost use Rattle.export_entries.specs.Turns.{listed_fault, written_list};
 
     ghost fault = { listed_fault };
 
-    ghost made = { listed_of };
+    ghost made = { written_list };
 
-    #[tactic(auto, unfolding(crate::specs::Turns::listed_fault, crate::specs::Turns::listed_of))]
+    #[tactic(auto, unfolding(crate::specs::Turns::listed_fault, crate::specs::Turns::written_list))]
     fn read(alloc: Global, value: &Value) -> Result<WrittenList, ReadEnd> {
         let param = WrittenParam::read(alloc, value)?;
         match param.kind {
@@ -154,13 +154,13 @@ pub struct WrittenConsent {
 }
 
 impl Entry for WrittenConsent {
-    ghost use Rattle.export_entries.specs.Turns.{consent_fault, consent_of};
+    ghost use Rattle.export_entries.specs.Turns.{consent_fault, written_consent};
 
     ghost fault = { consent_fault };
 
-    ghost made = { consent_of };
+    ghost made = { written_consent };
 
-    #[tactic(auto, unfolding(crate::specs::Turns::consent_fault, crate::specs::Turns::consent_of))]
+    #[tactic(auto, unfolding(crate::specs::Turns::consent_fault, crate::specs::Turns::written_consent))]
     fn read(alloc: Global, value: &Value) -> Result<WrittenConsent, ReadEnd> {
         object(alloc, value)?;
         let status = word(alloc, value, "consentStatus")?;
@@ -183,9 +183,9 @@ pub struct WrittenTurn {
 }
 
 /// What a tag says of its turn, field by field from `tagFiringOption` on.
-#[tactic(auto, unfolding(crate::specs::Turns::turn_fault, crate::specs::Turns::turn_of))]
+#[tactic(auto, unfolding(crate::specs::Turns::turn_fault, crate::specs::Turns::written_turn))]
 pub fn turn_of(alloc: Global, value: &Value) -> Result<WrittenTurn, ReadEnd>
-    ensures { Reads result (turn_fault (view value.now)) (turn_of (view value.now)) }
+    ensures { Reads result (turn_fault (view value.now)) (written_turn (view value.now)) }
 {
     let option = word(alloc, value, "tagFiringOption")?;
     let setup = single_at(alloc, value, "setupTag")?;

@@ -22,13 +22,13 @@ pub struct WrittenVariable {
 pub type WrittenVariables = ListOf<WrittenVariable>;
 
 impl Entry for WrittenVariable {
-    ghost use Rattle.export_entries.specs.Variables.{variable_fault, variable_of};
+    ghost use Rattle.export_entries.specs.Variables.{variable_fault, written_variable};
 
     ghost fault = { variable_fault };
 
-    ghost made = { variable_of };
+    ghost made = { written_variable };
 
-    #[tactic(auto, unfolding(crate::specs::Variables::variable_fault, crate::specs::Variables::variable_of))]
+    #[tactic(auto, unfolding(crate::specs::Variables::variable_fault, crate::specs::Variables::written_variable))]
     fn read(alloc: Global, value: &Value) -> Result<WrittenVariable, ReadEnd> {
         object(alloc, value)?;
         let id = required_text(alloc, value, "variableId")?;
@@ -57,13 +57,13 @@ pub struct WrittenBuiltIn {
 pub type WrittenBuiltIns = ListOf<WrittenBuiltIn>;
 
 impl Entry for WrittenBuiltIn {
-    ghost use Rattle.export_entries.specs.Variables.{built_in_fault, built_in_of};
+    ghost use Rattle.export_entries.specs.Variables.{built_in_fault, written_built_in};
 
     ghost fault = { built_in_fault };
 
-    ghost made = { built_in_of };
+    ghost made = { written_built_in };
 
-    #[tactic(auto, unfolding(crate::specs::Variables::built_in_fault, crate::specs::Variables::built_in_of))]
+    #[tactic(auto, unfolding(crate::specs::Variables::built_in_fault, crate::specs::Variables::written_built_in))]
     fn read(alloc: Global, value: &Value) -> Result<WrittenBuiltIn, ReadEnd> {
         object(alloc, value)?;
         let kind = required_text(alloc, value, "type")?;

@@ -9,7 +9,8 @@ use Rattle.serde_json.specs.Find.{get}
 use Rattle.export_fields.specs.Fault.{in_key, in_index, ◌then◌}
 use Rattle.export_fields.specs.Fields.{not_object, optional, text_fault, text_at}
 use Rattle.export_fields.specs.ListOf.{list_fault, list_at}
-use Rattle.export_fields.specs.Words.{among, word_fault, word_at}
+use Rattle.export_fields.specs.Words.{word_fault, word_at}
+use Rattle.folded_words.specs.Words.{among}
 use Rattle.export_fields.specs.declared.params.ParamKind.{ParamKind}
 use Rattle.export_fields.specs.declared.params.ParamKind.TheVariants.{Template, Integer, Boolean}
 use Rattle.export_fields.specs.declared.params.ParamKind.TheVariants.{List as Listed, Map as Mapped}

@@ -1,22 +1,12 @@
 -- Closed lists of words.
-use Rattle.std.specs.Prelude.{◌==◌, ℕ, List, [], ◌∷◌, map, filter, not, Option, Some, None}
-use Rattle.std.specs.Prelude.{option_and_then, if◌then◌else◌, unwrap_or}
+use Rattle.std.specs.Prelude.{ℕ, List, Option, option_and_then, unwrap_or}
 use Rattle.std.specs.Option.{option_map_or}
-use Rattle.std.specs.Str.{chars, bytes_eq}
-use Rattle.std.specs.Char.{to_ascii_lowercase}
+use Rattle.std.specs.Str.{chars}
 use Rattle.serde_json.specs.Data.{Data}
 use Rattle.serde_json.specs.Find.{get, as_str}
 use Rattle.export_fields.specs.Fault.{fault_without}
 use Rattle.export_fields.specs.Fields.{optional}
-
--- without its underscores, and with its ASCII letters in lower case
-abbrev pub folded : List ℕ → List ℕ
-folded text = map to_ascii_lowercase (filter (λ c. not (c == 95)) text)
-
--- what a word stands for in a table of words: the first that it is
-abbrev pub among : {W : Type 0} → List (List ℕ × W) → List ℕ → Option W
-among [] word = None
-among (pair ∷ pairs) word = if bytes_eq word pair.0 then Some pair.1 else among pairs word
+use Rattle.folded_words.specs.Words.{folded}
 
 -- what a text stands for, by what its folded word stands for
 abbrev pub named_text : {W : Type 0} → (List ℕ → Option W) → List ℕ → Option W

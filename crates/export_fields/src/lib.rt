@@ -23,4 +23,4 @@ pub use lists::{Entry, list_of, texts};
 pub use numbers::whole_at;
 pub use objects::{object_at, single_at};
 pub use params::{ParamKind, WrittenParam, WrittenParams, param_at, params_at};
-pub use words::{WordList, folded, word};
+pub use words::{WordList, word};

@@ -1,10 +1,10 @@
-ghost use Rattle.std.specs.Prelude.{◌≡◌, [], ◌++◌, Some, None, Option, List, ℕ, IfOk, option_map};
-ghost use Rattle.std.specs.Str.{chars};
+ghost use Rattle.std.specs.Prelude.{◌≡◌, [], Some, None, Option, List, ℕ, IfOk};
 ghost use Rattle.serde_json.specs.View.{view};
-ghost use Rattle.export_fields.specs.Fault.{Reads, Fails, fault_without};
-ghost use Rattle.export_fields.specs.Words.{folded, as_word, word_fault, word_at};
+ghost use Rattle.export_fields.specs.Fault.{Reads, Fails};
+ghost use Rattle.export_fields.specs.Words.{as_word, word_fault, word_at};
 
 use crate::fault::{ReadEnd, broken_at};
+use folded_words::folded;
 use gtm_base::{OutOfMemory, Text};
 use serde_json::Value;
 use std::alloc::Global;
@@ -23,19 +23,6 @@ pub trait WordList: Sized + Drop {
     /// What an absent field means.
     fn absent() -> Self
         ensures { result ≡ absent };
-}
-
-/// The text without its underscores, and with its ASCII letters in lower case.
-pub fn folded(alloc: Global, text: &str) -> Result<Text, OutOfMemory>
-    ensures { IfOk result (λ word. word ≡ folded (chars text.now)) }
-{
-    let mut word = Text::new(alloc);
-    for c in text.chars() {
-        if c != '_' {
-            word.push(c.to_ascii_lowercase())?;
-        }
-    }
-    Ok(word)
 }
 
 // What the value stands for as a word, or `None` where it is none of the list or no text.

@@ -1,5 +1,10 @@
+pub mod Cut
 pub mod Lists
+pub mod LookedUp
 pub mod Members
+pub mod Names
+pub mod Params
 pub mod TriggerRefs
 pub mod Types
 pub mod Values
+pub mod Whole

@@ -1,7 +1,7 @@
 -- The lists by which names become numbers.
 use Rattle.std.specs.Prelude.{◌<◌, ◌^◌, ℕ, List, length, map}
 use Rattle.export_entries.specs.declared.entries.WrittenEntries.{WrittenEntries}
-use Rattle.export_params.specs.Names.{NameLists}
+use Rattle.export_names.specs.Names.{NameLists}
 use Rattle.export_names.specs.Types.{TypeLists, types_of}
 
 -- the names of variables, the types that templates have, the numbers of triggers and the names of

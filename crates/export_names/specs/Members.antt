@@ -2,7 +2,7 @@
 use Rattle.std.specs.Prelude.{ℕ, List, [], Bool, ◌&&◌, find, if◌then◌else◌, codes}
 use Rattle.std.specs.Option.{option_map_or}
 use Rattle.std.specs.Str.{bytes_eq}
-use Rattle.export_fields.specs.Words.{folded}
+use Rattle.folded_words.specs.Words.{folded}
 use Rattle.export_fields.specs.declared.params.WrittenParam.{WrittenParam, out-WrittenParam}
 use Rattle.export_entries.specs.declared.triggers.WrittenTrigger.{WrittenTrigger}
 use Rattle.export_names.specs.Values.{values_of, has_key, is_list}

@@ -2,7 +2,7 @@
 use Rattle.std.specs.Prelude.{ℕ, List, [], ◌∷◌, Bool, true, false, map, unwrap_or, codes}
 use Rattle.std.specs.Option.{option_map_or}
 use Rattle.text_places.specs.Places.{place_of}
-use Rattle.export_fields.specs.Words.{among}
+use Rattle.folded_words.specs.Words.{among}
 use Rattle.export_model.specs.declared.triggers.TriggerRef.{TriggerRef}
 use Rattle.export_model.specs.declared.triggers.TriggerRef.TheVariants.{Own, AllPages, Init}
 use Rattle.export_model.specs.declared.triggers.TriggerRef.TheVariants.{ConsentInit, Never}

@@ -2,11 +2,11 @@ ghost use Rattle.std.specs.Prelude.{◌≡◌, ◌↔◌, ◌<◌, ◌^◌, IsTr
 ghost use Rattle.export_names.specs.Lists.{lists_of, HasFewEntries};
 ghost use Rattle.export_names.specs.Types.{HasTypesOf};
 
-use crate::names::{ById, ByName, texts_of};
+use crate::found_by::{ById, ByName, texts_of};
+use crate::names::Names;
 use crate::numbers::{Numbers, numbers_of};
 use crate::types::{TemplateTypes, TypeTexts};
 use export_entries::{WrittenBuiltIn, WrittenEntries, WrittenTag, WrittenTrigger, WrittenVariable};
-use export_params::Names;
 use gtm_base::OutOfMemory;
 use std::alloc::Global;
 use std::marker::Model;

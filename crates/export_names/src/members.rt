@@ -2,7 +2,8 @@ ghost use Rattle.std.specs.Prelude.{◌≡◌, option_map, IfOk, find};
 ghost use Rattle.export_names.specs.Members.{is_group, is_member_list, member_params};
 
 use export_entries::WrittenTrigger;
-use export_fields::{ParamKind, WrittenParam, WrittenParams, folded};
+use export_fields::{ParamKind, WrittenParam, WrittenParams};
+use folded_words::is_folded;
 use gtm_base::OutOfMemory;
 use std::alloc::Global;
 
@@ -27,8 +28,7 @@ pub fn member_params(
 pub fn is_group(alloc: Global, written: &WrittenTrigger) -> Result<bool, OutOfMemory>
     ensures { IfOk result (λ is. is ≡ is_group written.now) }
 {
-    let word = folded(alloc, written.kind.as_str())?;
-    Ok(word.is_word("triggergroup"))
+    is_folded(alloc, written.kind.as_str(), "triggergroup")
 }
 
 // The first list of members.

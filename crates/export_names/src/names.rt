@@ -1,97 +1,74 @@
-ghost use Rattle.std.specs.Prelude.{◌≡◌, map, IfOk, ℕ, List};
+ghost use Rattle.std.specs.Prelude.{◌≡◌, ◌<◌, ◌^◌, IfOk, length, map, codes};
+ghost use Rattle.std.specs.Str.{chars, bytes_eq};
+ghost use Rattle.export_names.specs.Names.{name_ref};
 
-use export_entries::{
-    WrittenBuiltIn, WrittenTag, WrittenTemplate, WrittenTrigger, WrittenVariable,
-};
+use export_model::NameRef;
 use gtm_base::{OutOfMemory, Text};
 use std::alloc::Global;
+use std::marker::Model;
+use text_places::Places;
 
-/// Entries are found by their ids.
-pub struct ById;
-
-/// Entries are found by their names.
-pub struct ByName;
-
-/// An entry that has a text by which it is found.
-pub trait FoundBy<By> {
-    ghost text: { Self → List ℕ };
-
-    /// The text by which it is found.
-    fn text(&self) -> &Text
-        ensures { result.now ≡ text self.now };
+/// The names of a container's variables and of its built-in variables.
+#[derive(Drop)]
+pub struct Names<'a> {
+    variables: Places<'a>,
+    built_ins: Places<'a>,
 }
 
-/// The texts by which entries are found, in order. Fails where memory is wanting.
-pub fn texts_of<By, T: FoundBy<By>>(alloc: Global, entries: &[T]) -> Result<Vec<&Text>, OutOfMemory>
-    ensures { IfOk result (λ made. map (λ text. text.now) made.items ≡ map T.text entries.now) }
+impl<'a> Model for Names<'a> {
+    ghost use Rattle.export_names.specs.Names.{NameLists, AreFew};
+
+    ghost Value = { NameLists };
+
+    ghost view = { λ names. record { variables = names.variables; built_ins = names.built_ins } };
+
+    ghost invariant = { λ names.
+        AreFew (record { variables = names.variables; built_ins = names.built_ins }) };
+}
+
+impl<'a> Names<'a> {
+    /// The names of these variables and of these built-in variables. Fails where memory is wanting.
+    pub fn of(
+        alloc: Global,
+        variables: Vec<&'a Text>,
+        built_ins: Vec<&'a Text>,
+    ) -> Result<Names<'a>, OutOfMemory>
+        requires few_variables { length variables.items < 2 ^ 32 }
+        requires few_built_ins { length built_ins.items < 2 ^ 32 }
+        ensures variables { IfOk result
+            (λ made. made.variables ≡ map (λ t. t.now) variables.entry.items) }
+        ensures built_ins { IfOk result
+            (λ made. made.built_ins ≡ map (λ t. t.now) built_ins.entry.items) }
+    {
+        let variables = Places::of(alloc, variables)?;
+        let built_ins = Places::of(alloc, built_ins)?;
+        Ok(Names {
+            variables,
+            built_ins,
+        })
+    }
+}
+
+/// What a name stands for: `_event` for the name of the event, else the first variable with the
+/// name, else the first built-in variable with it, else nothing.
+pub fn name_ref(names: &Names, name: &str) -> NameRef
+    ensures { result ≡ name_ref names.now (chars name.now) }
 {
-    let mut made = Vec::new(alloc);
-    for entry in entries {
-        made.push(entry.text())?;
+    if is_event(name) {
+        return NameRef::EventName;
     }
-    Ok(made)
-}
-
-impl FoundBy<ById> for WrittenTag {
-    ghost text = { λ tag. tag.id };
-
-    fn text(&self) -> &Text {
-        &self.id
+    if let Some(at) = names.variables.place(name) {
+        return NameRef::Variable(at as u32);
+    }
+    match names.built_ins.place(name) {
+        Some(at) => NameRef::BuiltIn(at as u32),
+        None => NameRef::Nothing,
     }
 }
 
-impl FoundBy<ByName> for WrittenTag {
-    ghost text = { λ tag. tag.name };
-
-    fn text(&self) -> &Text {
-        &self.name
-    }
-}
-
-impl FoundBy<ById> for WrittenTrigger {
-    ghost text = { λ trigger. trigger.id };
-
-    fn text(&self) -> &Text {
-        &self.id
-    }
-}
-
-impl FoundBy<ById> for WrittenVariable {
-    ghost text = { λ variable. variable.id };
-
-    fn text(&self) -> &Text {
-        &self.id
-    }
-}
-
-impl FoundBy<ByName> for WrittenVariable {
-    ghost text = { λ variable. variable.name };
-
-    fn text(&self) -> &Text {
-        &self.name
-    }
-}
-
-impl FoundBy<ByName> for WrittenBuiltIn {
-    ghost text = { λ built_in. built_in.name };
-
-    fn text(&self) -> &Text {
-        &self.name
-    }
-}
-
-impl FoundBy<ById> for WrittenTemplate {
-    ghost text = { λ template. template.id };
-
-    fn text(&self) -> &Text {
-        &self.id
-    }
-}
-
-impl FoundBy<ByName> for Text {
-    ghost text = { λ text. text };
-
-    fn text(&self) -> &Text {
-        self
-    }
+// Whether it is the word for the name of the event.
+fn is_event(name: &str) -> bool
+    ensures { result ≡ bytes_eq (chars name.now) (codes "_event") }
+{
+    name == "_event"
 }

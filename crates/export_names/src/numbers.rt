@@ -1,7 +1,7 @@
 ghost use Rattle.std.specs.Prelude.{◌≡◌, ◌<◌, ◌^◌, IfOk, length, map};
 ghost use Rattle.text_places.specs.Places.{place_of};
 
-use crate::names::{FoundBy, texts_of};
+use crate::found_by::{FoundBy, texts_of};
 use gtm_base::{ListOf, OutOfMemory, Text};
 use std::alloc::Global;
 use std::marker::Model;

@@ -2,7 +2,7 @@ ghost use Rattle.std.specs.Prelude.{◌≡◌, ◌<◌, ◌^◌, length, map, op
 ghost use Rattle.export_names.specs.Types.{own_type, gallery_id, type_of_gallery, gallery_type};
 ghost use Rattle.export_names.specs.Types.{names_of, template_at, HasTypesOf};
 
-use crate::names::ByName;
+use crate::found_by::ByName;
 use crate::numbers::{Numbers, numbers_of};
 use export_entries::{WrittenTemplate, WrittenTemplates};
 use gtm_base::{OutOfMemory, Text, Texts};

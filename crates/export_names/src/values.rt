@@ -29,7 +29,7 @@ pub fn values_of(alloc: Global, params: &WrittenParams) -> Result<Texts, OutOfMe
 }
 
 /// The text of a word. Fails where memory is wanting.
-pub fn text_of(alloc: Global, word: &str) -> Result<Text, OutOfMemory>
+pub fn word_text(alloc: Global, word: &str) -> Result<Text, OutOfMemory>
     requires { IsTrue (is_all_ascii word.now) }
     ensures { IfOk result (λ made. made ≡ word.now) }
 {

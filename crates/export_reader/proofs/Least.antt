@@ -4,9 +4,10 @@ use Rattle.std.proofs.Common.{None, refl, sym, ap, subst, arith}
 use Rattle.std.specs.Prelude.{slice_get}
 use Rattle.serde_json.specs.Data as json
 use Rattle.gtm_data.specs.Json.{json_of}
-use Rattle.export_entries.specs.Entries.{entries_of}
+use Rattle.export_entries.specs.Entries.{written_entries}
 use Rattle.export_entries.specs.declared.entries.WrittenEntries.{WrittenEntries}
-use Rattle.export_reader.specs.FirstBroken.{Rule, container_rules, reference_rules, entries_rules}
+use Rattle.export_reader.specs.FirstBroken.{Rule, part_rules, text_rules, container_rules}
+use Rattle.export_reader.specs.FirstBroken.{reference_rules, entries_rules}
 use Rattle.export_reader.specs.FirstBroken.{version_rules, tree_rules, rules_of, export_rules}
 use Rattle.export_reader.specs.FirstBroken.{first_of, first_broken}
 use Rattle.export_reader.specs.Breaks.{Breaks}
@@ -112,6 +113,18 @@ unbroken : (rules : List Rule) (first : Option (ℕ × List ℕ)) → first_of r
 unbroken rules None is none = refl
 unbroken rules (Some first) is none = absurd (none first.0 first.1 (found rules first.0 first.1 is))
 
+parts_rise : (readings : List TemplateReading) (written : WrittenEntries)
+    → Rises 22 30 (part_rules readings written)
+unfolding part_rules
+parts_rise readings written =
+    (omega arith, (omega arith, (omega arith, (omega arith, (omega arith, omega arith)))))
+
+texts_rise : (readings : List TemplateReading) (written : WrittenEntries)
+    → Rises 19 30 (text_rules readings written)
+unfolding text_rules
+texts_rise readings written =
+    (omega arith, (omega arith, (omega arith, parts_rise readings written)))
+
 entries_rise : (readings : List TemplateReading) (written : WrittenEntries)
     → Rises 9 30 (entries_rules readings written)
 unfolding entries_rules reference_rules container_rules
@@ -123,7 +136,7 @@ entries_rise readings written = (
       omega arith,
       (
         omega arith,
-        (omega arith, (omega arith, (omega arith, (omega arith, (omega arith, omega arith))))),
+        (omega arith, (omega arith, (omega arith, (omega arith, texts_rise readings written)))),
       ),
     ),
   ),
@@ -132,7 +145,7 @@ entries_rise readings written = (
 version_rise : (version : Option json.Data) → Rises 7 30 (option_map_or version_rules version [])
 unfolding version_rules
 version_rise None = omega arith
-version_rise (Some version) = let written = entries_of version in
+version_rise (Some version) = let written = written_entries version in
     (omega arith, (omega arith, entries_rise (readings_of written.templates) written))
 
 tree_rise : (tree : Option json.Data) → Rises 3 30 (option_map_or tree_rules tree [])

@@ -6,14 +6,16 @@ use Rattle.std.specs.Option.{option_map_or}
 use Rattle.serde_json.specs.Data as json
 use Rattle.gtm_data.specs.Json.{json_of}
 use Rattle.gtm_data.specs.Plain.{not_whole, too_deep}
-use Rattle.export_entries.specs.Entries.{entries_of}
+use Rattle.export_entries.specs.Entries.{written_entries}
 use Rattle.export_entries.specs.declared.entries.WrittenEntries.{WrittenEntries}
 use Rattle.export_model.specs.declared.container.Container.{Container}
 use Rattle.export_container.specs.Container.{container_of}
 use Rattle.export_reader.specs.Rules.{too_large, not_json, other_format, version_in, no_version}
 use Rattle.export_reader.specs.Rules.{not_web, field_kind, duplicate_id, duplicate_name}
 use Rattle.export_reader.specs.Rules.{unknown_trigger, unknown_sequence_tag, unknown_template}
-use Rattle.export_reader.specs.Rules.{variable_cycle, group_cycle, priority_text, not_built}
+use Rattle.export_reader.specs.Rules.{variable_cycle, group_cycle, priority_text, section_repeated}
+use Rattle.export_reader.specs.Rules.{section_missing, text_before, info_form, fields_form}
+use Rattle.export_reader.specs.Rules.{table_value, permissions_form, not_built}
 use Rattle.export_reader.specs.declared.top.ExportEnd.{ExportEnd}
 use Rattle.export_reader.specs.declared.top.ExportEnd.TheVariants.{OutOfMemory, Refused}
 use Rattle.export_templates.specs.Readings.{readings_of}
@@ -23,22 +25,39 @@ use Rattle.export_templates.specs.declared.readings.TemplateReading.{TemplateRea
 abbrev pub Rule : Type 0
 Rule = ℕ × Option (List ℕ)
 
+-- the rules of the parts of templates, and the last one
+unfoldable pub part_rules : List TemplateReading → WrittenEntries → List Rule
+part_rules readings written =
+    (22, info_form readings)
+    ∷ (23, fields_form readings)
+    ∷ (24, table_value readings written)
+    ∷ (25, permissions_form readings)
+    ∷ (29, not_built written)
+    ∷ []
+
+-- the rules of the texts of templates
+unfoldable pub text_rules : List TemplateReading → WrittenEntries → List Rule
+text_rules readings written =
+    (19, section_repeated readings)
+    ∷ (20, section_missing readings)
+    ∷ (21, text_before readings)
+    ∷ part_rules readings written
+
 -- the rules of the container that entries stand for
-unfoldable pub container_rules : WrittenEntries → Container → List Rule
-container_rules written container =
+unfoldable pub container_rules : List TemplateReading → WrittenEntries → Container → List Rule
+container_rules readings written container =
     (16, variable_cycle container)
     ∷ (17, group_cycle container)
     ∷ (18, priority_text written)
-    ∷ (29, not_built written)
-    ∷ []
+    ∷ text_rules readings written
 
 -- the rules of what entries refer to
 unfoldable pub reference_rules : List TemplateReading → WrittenEntries → List Rule
 reference_rules readings written =
     (11, unknown_trigger written)
     ∷ (14, unknown_sequence_tag written)
-    ∷ (15, unknown_template written)
-    ∷ container_rules written (container_of readings written)
+    ∷ (15, unknown_template readings written)
+    ∷ container_rules readings written (container_of readings written)
 
 -- the rules of entries whose templates have these readings
 unfoldable pub entries_rules : List TemplateReading → WrittenEntries → List Rule
@@ -48,7 +67,7 @@ entries_rules readings written =
 -- the rules of a container version
 unfoldable pub version_rules : json.Data → List Rule
 version_rules version =
-    let written = entries_of version in
+    let written = written_entries version in
     (7, not_web version)
     ∷ (8, field_kind version)
     ∷ entries_rules (readings_of written.templates) written

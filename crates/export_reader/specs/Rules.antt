@@ -1,5 +1,5 @@
 -- The rules of an export, each by itself: the path at which it is first broken, if it is.
-use Rattle.std.specs.Prelude.{ℕ, List, [], ◌∷◌, length, map, Bool, false, Option, Some, None}
+use Rattle.std.specs.Prelude.{ℕ, List, [], length, Bool, false, Option, Some, None}
 use Rattle.std.specs.Prelude.{option_map, option_and_then, is_some, codes, nat_lt, ◌==◌, ◌||◌}
 use Rattle.std.specs.Prelude.{if◌then◌else◌}
 use Rattle.std.specs.Option.{option_map_or}
@@ -7,7 +7,7 @@ use Rattle.std.specs.Str.{bytes_eq, chars}
 use Rattle.serde_json.specs.Data as json
 use Rattle.serde_json.specs.Find.{get, as_number, as_u64, as_object, as_str}
 use Rattle.export_fields.specs.Fault.{in_key, in_index}
-use Rattle.export_fields.specs.Words.{folded}
+use Rattle.folded_words.specs.Words.{folded}
 use Rattle.export_entries.specs.Entries.{entries_fault}
 use Rattle.export_entries.specs.declared.entries.WrittenEntries.{WrittenEntries}
 use Rattle.export_model.specs.Graphs.{variable_graph, group_graph}
@@ -16,9 +16,12 @@ use Rattle.export_reader.specs.declared.top.TheConstants.{MAX_EXPORT}
 use Rattle.export_checks.specs.NotBuilt as built
 use Rattle.export_checks.specs.Priorities as priorities
 use Rattle.export_checks.specs.Repeats as repeats
+use Rattle.export_checks.specs.TableValues as tables
+use Rattle.export_checks.specs.TemplateTexts as texts
 use Rattle.export_checks.specs.UnknownTags as tags
 use Rattle.export_checks.specs.UnknownTriggers as triggers
 use Rattle.export_checks.specs.UnknownTypes as types
+use Rattle.export_templates.specs.declared.readings.TemplateReading.{TemplateReading}
 use Rattle.reference_cycles.specs.Closure.{first_cycle}
 
 -- rule 1: it has over `MAX_EXPORT` bytes
@@ -112,9 +115,9 @@ unknown_trigger written = in_version (triggers.unknown_trigger written)
 unfoldable pub unknown_sequence_tag : WrittenEntries → Option (List ℕ)
 unknown_sequence_tag written = in_version (tags.unknown_sequence_tag written)
 
--- rule 15: the type of a custom template is that of none
-unfoldable pub unknown_template : WrittenEntries → Option (List ℕ)
-unknown_template written = in_version (types.unknown_template written)
+-- rule 15: the type of a custom template is answered by none
+unfoldable pub unknown_template : List TemplateReading → WrittenEntries → Option (List ℕ)
+unknown_template readings written = in_version (types.unknown_template readings written)
 
 -- rule 16: a variable refers to itself, by names in parameters and formats
 unfoldable pub variable_cycle : Container → Option (List ℕ)
@@ -127,6 +130,34 @@ group_cycle c = option_map (entry_path (codes "trigger")) (first_cycle (group_gr
 -- rule 18: the text of a priority is no whole number
 unfoldable pub priority_text : WrittenEntries → Option (List ℕ)
 priority_text written = in_version (priorities.priority_text written)
+
+-- rule 19: a heading stands twice in the text of a template
+unfoldable pub section_repeated : List TemplateReading → Option (List ℕ)
+section_repeated readings = in_version (texts.readings_fault texts.repeat_place readings)
+
+-- rule 20: a template has no INFO, or no script for web containers
+unfoldable pub section_missing : List TemplateReading → Option (List ℕ)
+section_missing readings = in_version (texts.readings_fault texts.lack_place readings)
+
+-- rule 21: text stands before the first heading of a template
+unfoldable pub text_before : List TemplateReading → Option (List ℕ)
+text_before readings = in_version (texts.readings_fault texts.front_place readings)
+
+-- rule 22: the INFO of a template does not say what it is
+unfoldable pub info_form : List TemplateReading → Option (List ℕ)
+info_form readings = in_version (texts.readings_fault texts.info_place readings)
+
+-- rule 23: the parameters of a template have not the form of fields
+unfoldable pub fields_form : List TemplateReading → Option (List ℕ)
+fields_form readings = in_version (texts.readings_fault texts.fields_place readings)
+
+-- rule 24: a template is given something else for a table
+unfoldable pub table_value : List TemplateReading → WrittenEntries → Option (List ℕ)
+table_value readings written = in_version (tables.table_value readings written)
+
+-- rule 25: the permissions of a template have not the form of them
+unfoldable pub permissions_form : List TemplateReading → Option (List ℕ)
+permissions_form readings = in_version (texts.readings_fault texts.permissions_place readings)
 
 -- rule 29: there is an entry, of which none is run yet
 unfoldable pub not_built : WrittenEntries → Option (List ℕ)

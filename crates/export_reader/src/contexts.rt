@@ -3,7 +3,8 @@ ghost use Rattle.serde_json.specs.View.{view, items_view};
 ghost use Rattle.export_reader.specs.Rules as rules;
 ghost use Rattle.export_reader.specs.Rules.{is_web, has_web, lists_web, context_of, context_path};
 
-use export_fields::{folded, key_before};
+use export_fields::key_before;
+use folded_words::is_folded;
 use gtm_base::{OutOfMemory, Text};
 use serde_json::Value;
 use std::alloc::Global;
@@ -65,10 +66,7 @@ fn is_web(alloc: Global, value: &Value) -> Result<bool, OutOfMemory>
     ensures { IfOk result (λ found. found ≡ is_web (view value.now)) }
 {
     match value.as_str() {
-        Some(text) => {
-            let word = folded(alloc, text)?;
-            Ok(word.is_word("web"))
-        },
+        Some(text) => is_folded(alloc, text, "web"),
         None => Ok(false),
     }
 }

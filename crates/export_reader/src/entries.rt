@@ -1,5 +1,5 @@
 ghost use Rattle.std.specs.Prelude.{◌≡◌, Some, None, IfOk, codes};
-ghost use Rattle.export_model.specs.Sound.{Sound};
+ghost use Rattle.export_model.specs.Sound.{Sound, IsConsistent};
 ghost use Rattle.export_names.specs.Lists.{lists_of};
 ghost use Rattle.export_container.specs.Container.{container_of};
 ghost use Rattle.export_container.specs.Templates.{AreRead};
@@ -11,9 +11,10 @@ ghost use Rattle.export_reader.specs.Rules as rules;
 use crate::cycles::{group_cycle, variable_cycle};
 use crate::loading::Loaded;
 use crate::paths::in_version;
+use crate::texts::judge_texts;
 use crate::top::ExportEnd;
 use export_checks::{
-    duplicate_id, duplicate_name, not_built, priority_text, unknown_sequence_tag, unknown_template,
+    duplicate_id, duplicate_name, priority_text, unknown_sequence_tag, unknown_template,
     unknown_trigger,
 };
 use export_container::container_of;
@@ -67,7 +68,7 @@ fn judge_references(
     if let Some(path) = sequence_tag_path(alloc, known, written)? {
         return Err(ExportEnd::Refused { rule: 14, path });
     }
-    if let Some(path) = template_path(alloc, known, written)? {
+    if let Some(path) = template_path(alloc, known, readings, written)? {
         return Err(ExportEnd::Refused { rule: 15, path });
     }
     judge_container(alloc, known, readings, written)
@@ -84,9 +85,9 @@ fn judge_container(
     requires known { known.now ≡ lists_of written.now }
     requires read { AreRead readings.now written.now.templates }
     ensures judged { Judges result
-        (container_rules written.now (container_of readings.now written.now))
+        (container_rules readings.now written.now (container_of readings.now written.now))
         (Some (loaded_of readings.now written.now)) }
-    ensures sound { IfOk result (λ loaded. Sound loaded.container) }
+    ensures consistent { IfOk result (λ loaded. IsConsistent loaded.container) }
 {
     let container = container_of(alloc, known, readings, written)?;
     if let Some(path) = variable_cycle(alloc, &container)? {
@@ -98,10 +99,7 @@ fn judge_container(
     if let Some(path) = priority_path(alloc, written)? {
         return Err(ExportEnd::Refused { rule: 18, path });
     }
-    if let Some(path) = entry_not_built(alloc, written)? {
-        return Err(ExportEnd::Refused { rule: 29, path });
-    }
-    Ok(Loaded { container })
+    judge_texts(alloc, known, readings, written, container)
 }
 
 // The path of the first id that stands twice.
@@ -150,17 +148,18 @@ fn sequence_tag_path(
     in_version(alloc, &path)
 }
 
-// The path of the first type of a custom template that no template has.
+// The path of the first type of a custom template that no template answers.
 #[tactic(auto, unfolding(crate::specs::Rules::unknown_template))]
 fn template_path(
     alloc: Global,
     known: &Known,
+    readings: &TemplateReadings,
     written: &WrittenEntries,
 ) -> Result<Option<Text>, OutOfMemory>
     requires { known.now ≡ lists_of written.now }
-    ensures { IfOk result (λ path. path ≡ rules.unknown_template written.now) }
+    ensures { IfOk result (λ path. path ≡ rules.unknown_template readings.now written.now) }
 {
-    let path = unknown_template(alloc, known, written)?;
+    let path = unknown_template(alloc, known, readings, written)?;
     in_version(alloc, &path)
 }
 
@@ -170,14 +169,5 @@ fn priority_path(alloc: Global, written: &WrittenEntries) -> Result<Option<Text>
     ensures { IfOk result (λ path. path ≡ rules.priority_text written.now) }
 {
     let path = priority_text(alloc, written)?;
-    in_version(alloc, &path)
-}
-
-// The path of the first entry that is not run yet.
-#[tactic(auto, unfolding(crate::specs::Rules::not_built))]
-fn entry_not_built(alloc: Global, written: &WrittenEntries) -> Result<Option<Text>, OutOfMemory>
-    ensures { IfOk result (λ path. path ≡ rules.not_built written.now) }
-{
-    let path = not_built(alloc, written)?;
     in_version(alloc, &path)
 }

@@ -2,8 +2,8 @@ use crate::judging::{Row, container_in, told, with_version};
 use export_model::FiringOption;
 use std::test::Fail;
 
-// Members of a container version that breaks no rule, or the last one alone: its entries are not run
-// yet.
+// Members of a container version that breaks no rule, or the last one alone: its entries are not
+// run yet.
 const ACCEPTED: &[Row] = &[
     Row {
         name: "no lists",
@@ -49,7 +49,7 @@ const ACCEPTED: &[Row] = &[
     },
     Row {
         name: "ids and names of different lists, and names of triggers",
-        text: br#""tag":[{"tagId":"1","name":"A","type":"html"}],"trigger":[{"triggerId":"1","name":"A","type":"CLICK"},{"triggerId":"2","name":"A","type":"CLICK"}],"variable":[{"variableId":"1","name":"A","type":"v"}],"builtInVariable":[{"type":"EVENT","name":"A"},{"type":"EVENT","name":"A"}],"customTemplate":[{"templateId":"1","name":"A","templateData":""},{"templateId":"2","name":"A","templateData":""}]"#,
+        text: br#""tag":[{"tagId":"1","name":"A","type":"html"}],"trigger":[{"triggerId":"1","name":"A","type":"CLICK"},{"triggerId":"2","name":"A","type":"CLICK"}],"variable":[{"variableId":"1","name":"A","type":"v"}],"builtInVariable":[{"type":"EVENT","name":"A"},{"type":"EVENT","name":"A"}],"customTemplate":[{"templateId":"1","name":"A","templateData":"___INFO___\n{\"type\":\"TAG\"}\n___SANDBOXED_JS_FOR_WEB_TEMPLATE___\n"},{"templateId":"2","name":"A","templateData":"___INFO___\n{\"type\":\"TAG\"}\n___SANDBOXED_JS_FOR_WEB_TEMPLATE___\n"}]"#,
         rule: 29,
         path: "/containerVersion/tag/0",
     },

@@ -23,8 +23,8 @@ const PADDED: [Row; 2] = [
     },
 ];
 
-// Exports that are too large, that are broken as a whole, and that are broken within their container
-// version.
+// Exports that are too large, that are broken as a whole, and that are broken within their
+// container version.
 #[test]
 fn broken_exports(rt: HostRuntime) -> Result<(), Fail> {
     let alloc = rt.alloc();

@@ -5,7 +5,7 @@ use export_names::{known_of, type_texts};
 use export_reader::{ExportEnd, read_export};
 use export_templates::read_templates;
 use gtm_base::{OutOfMemory, Text};
-use gtm_data::json_of;
+use gtm_data::{json_of, write_quoted};
 use std::alloc::Global;
 use std::test::Fail;
 
@@ -52,5 +52,25 @@ pub fn padded(alloc: Global, text: &[u8], bytes: usize) -> Result<Vec<u8>, OutOf
     let mut export = Vec::new(alloc);
     export.extend_from_slice(text)?;
     export.resize(bytes, b' ')?;
+    Ok(export)
+}
+
+/// The export with these members of its container version, each with a comma behind it, and behind
+/// them custom templates with these texts. Their types are `cvt_1_2`, `cvt_1_3` and so on.
+pub fn with_templates(alloc: Global, members: &str, texts: &[&str]) -> Result<Text, OutOfMemory> {
+    let mut export = Text::from_str(alloc, "{\"exportFormatVersion\":2,\"containerVersion\":{")?;
+    export.push_str(members)?;
+    export.push_str("\"customTemplate\":[")?;
+    for (at, text) in texts.iter().enumerate() {
+        if at > 0 {
+            export.push(',')?;
+        }
+        export.push_str("{\"containerId\":\"1\",\"templateId\":\"")?;
+        export.push_unsigned((at as u64).saturating_add(2))?;
+        export.push_str("\",\"templateData\":")?;
+        write_quoted(&mut export, text)?;
+        export.push('}')?;
+    }
+    export.push_str("]}}")?;
     Ok(export)
 }

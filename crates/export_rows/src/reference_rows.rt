@@ -1,8 +1,8 @@
 use crate::judging::{Row, told, with_version};
 use std::test::Fail;
 
-// Members of a container version, with names, references and rings. Rule 29 says that no other rule is
-// broken: it has entries, of which none is run yet.
+// Members of a container version, with names, references and rings. Rule 29 says that no other rule
+// is broken: it has entries, of which none is run yet.
 const REFERENCES: &[Row] = &[
     Row {
         name: "a firing trigger that is none",
@@ -109,7 +109,7 @@ const REFERENCES: &[Row] = &[
     },
     Row {
         name: "templates by their container and by the gallery",
-        text: br#""tag":[{"tagId":"1","name":"A","type":"cvt_1_2"},{"tagId":"2","name":"B","type":"cvt_X"}],"customTemplate":[{"templateId":"2","containerId":"1","templateData":"","galleryReference":{"galleryTemplateId":"X"}}]"#,
+        text: br#""tag":[{"tagId":"1","name":"A","type":"cvt_1_2"},{"tagId":"2","name":"B","type":"cvt_X"}],"customTemplate":[{"templateId":"2","containerId":"1","templateData":"___INFO___\n{\"type\":\"TAG\"}\n___SANDBOXED_JS_FOR_WEB_TEMPLATE___\n","galleryReference":{"galleryTemplateId":"X"}}]"#,
         rule: 29,
         path: "/containerVersion/tag/0",
     },
@@ -292,7 +292,7 @@ const ENTRIES: &[Row] = &[
     },
     Row {
         name: "a trigger, a variable and a template",
-        text: br#""trigger":[{"triggerId":"1","type":"CLICK"}],"variable":[{"variableId":"1","name":"A","type":"c"}],"customTemplate":[{"templateId":"1","containerId":"2","templateData":""}]"#,
+        text: br#""trigger":[{"triggerId":"1","type":"CLICK"}],"variable":[{"variableId":"1","name":"A","type":"c"}],"customTemplate":[{"templateId":"1","containerId":"2","templateData":"___INFO___\n{\"type\":\"TAG\"}\n___SANDBOXED_JS_FOR_WEB_TEMPLATE___\n"}]"#,
         rule: 29,
         path: "/containerVersion/trigger/0",
     },
@@ -310,7 +310,7 @@ const ENTRIES: &[Row] = &[
     },
     Row {
         name: "a template",
-        text: br#""customTemplate":[{"templateId":"1","containerId":"2","templateData":""}]"#,
+        text: br#""customTemplate":[{"templateId":"1","containerId":"2","templateData":"___INFO___\n{\"type\":\"TAG\"}\n___SANDBOXED_JS_FOR_WEB_TEMPLATE___\n"}]"#,
         rule: 29,
         path: "/containerVersion/customTemplate/0",
     },

@@ -1,9 +1,9 @@
-use Rattle.export_entries.specs.Tags.{tag_fault, tag_of}
+use Rattle.export_entries.specs.Tags.{tag_fault, written_tag}
 use Rattle.export_entries.proofs.Later.{ends_as}
 use Rattle.export_entries.proofs.tags.WrittenTagEntry.read.Goals as goal
 
 pub returns-in_err-turn : goal.returns-in_err-turn
-unfolding tag_fault tag_of
+unfolding tag_fault written_tag
 returns-in_err-turn c =
     ends_as _ _ _ _ c.from_residual-in_err-turn.ensures.1
     (rw (

@@ -1,9 +1,9 @@
-use Rattle.export_entries.specs.Triggers.{trigger_fault, trigger_of}
+use Rattle.export_entries.specs.Triggers.{trigger_fault, written_trigger}
 use Rattle.export_entries.proofs.Later.{ends_as}
 use Rattle.export_entries.proofs.triggers.WrittenTriggerEntry.read.Goals as goal
 
 pub returns-in_err-params : goal.returns-in_err-params
-unfolding trigger_fault trigger_of
+unfolding trigger_fault written_trigger
 returns-in_err-params c =
     ends_as _ _ _ _ c.from_residual-in_err-params.ensures.1
     (rw (
