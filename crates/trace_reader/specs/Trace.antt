@@ -6,10 +6,10 @@ use Rattle.trace_forms.specs.Lines.{line_of}
 use Rattle.trace_forms.specs.Steps.{Step, fact, push, args, load, vendor, Reading, blank, step, bad}
 use Rattle.trace_lines.specs.Lines.{TraceLine, lines, size_of, is_too_long}
 
--- what a step says: rule 8 for one that is not run yet, which are all but pushes
+-- what a step says: rule 8 for one that is not run yet, which are all but pushes and facts
 abbrev pub built : Step → Reading
 built (push t) = step (push t)
-built (fact f) = bad 8
+built (fact f) = step (fact f)
 built (args t) = bad 8
 built (load number ok) = bad 8
 built (vendor number ok) = bad 8

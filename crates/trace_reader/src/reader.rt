@@ -192,13 +192,15 @@ impl Reader {
         }
     }
 
-    // The step, where it is run already: so far pushes alone are.
+    // The step, where it is run already: so far pushes and facts of the page are.
     fn built(&self, step: TraceStep) -> Result<Option<TraceStep>, TraceEnd>
         ensures { Judged result self.now.lines (built (step_of step)) }
     {
         match step {
-            TraceStep::Push(_) => Ok(Some(step)),
-            _ => Err(self.refused(8)),
+            TraceStep::Push(_) | TraceStep::Fact(_) => Ok(Some(step)),
+            TraceStep::Args(_) | TraceStep::Load { .. } | TraceStep::Vendor { .. } => {
+                Err(self.refused(8))
+            },
         }
     }
 

@@ -157,13 +157,29 @@ const ROWS: &[Row] = &[
         says: "push {\"a\":[1]}\nline 2 rule 2",
     },
     Row {
-        name: "a time, which is not run yet",
-        trace: b"{\"push\":1}\n{\"time\":1}\n",
-        says: "push 1\nline 2 rule 8",
+        name: "what a page is known by",
+        trace: br#"{"page":{"url":"https://a.example/"}}
+{"cookie":"c","values":["1","2"]}
+{"global":"g.h","value":{"i":1}}
+{"global":"f","returns":[2]}
+{"time":3}
+{"push":4}"#,
+        says: "page url=https://a.example/\ncookie c 1|2|\nglobal g.h {\"i\":1}\n\
+               returns f [2]\ntime 3\npush 4\nend",
     },
     Row {
         name: "arguments, which are not run yet",
-        trace: b"{\"args\":[]}",
+        trace: b"{\"time\":1}\n{\"args\":[]}",
+        says: "time 1\nline 2 rule 8",
+    },
+    Row {
+        name: "how a load ended, which is not run yet",
+        trace: b"{\"push\":1}\n{\"load\":1,\"ok\":true}\n",
+        says: "push 1\nline 2 rule 8",
+    },
+    Row {
+        name: "how a start ended, which is not run yet",
+        trace: b"{\"vendor\":1,\"ok\":false}",
         says: "line 1 rule 8",
     },
     Row {
