@@ -273,7 +273,7 @@ reaches_part {T} result error count state left after job whole old now new is so
     })
 
 -- the error that a conversion gave
-pub error_is : {E : Type 0} (result : Result Unit E) (error : E) → IsErrAnd result (λ e. e ≡ error)
+pub error_is : {T E : Type 0} (result : Result T E) (error : E) → IsErrAnd result (λ e. e ≡ error)
     → result ≡ Err error
 error_is (Ok done) error is = absurd is
 error_is (Err e) error is = ap Err is

@@ -4,14 +4,16 @@ use Rattle.std.proofs.Common.{not, append-nil}
 use Rattle.std.specs.Prelude.{Option, Some, None, IsSome, IfSome, unwrap_or, Result, Ok, Err}
 use Rattle.std.specs.Prelude.{if◌then◌else◌}
 use Rattle.std.proofs.lemmas.Grind.{flat_map-append}
-use Rattle.data_layer.specs.Layer.{LayerState, empty_layer, is_ignored}
+use Rattle.data_layer.specs.Command.{is_ignored_command}
+use Rattle.data_layer.specs.Layer.{is_ignored}
 use Rattle.gtm_base.specs.Outside.{SinkState, Writes}
 use Rattle.gtm_base.proofs.WrittenPieces.{writes_part, writes_then}
 use Rattle.gtm_data.specs.Tree.{Tree}
+use Rattle.page_world.specs.World.{WorldState, empty_world}
 use Rattle.replay_engine.specs.Jobs.{State, take_message, event_lines}
 use Rattle.replay_engine.specs.Messages.{event_name}
 use Rattle.replay_engine.specs.Run.{lines_text}
-use Rattle.run_log.specs.Lines.{LogLine, message, line_bytes}
+use Rattle.run_log.specs.Lines.{LogLine, command, message, line_bytes}
 
 pub lines_text-append : (a b : List LogLine) → lines_text (a ++ b) ≡ lines_text a ++ lines_text b
 lines_text-append a b = flat_map-append line_bytes a b
@@ -36,11 +38,27 @@ pub not_not : (took ignored : Bool) → took ≡ not ignored → not took ≡ ig
 not_not took true is = ap not is
 not_not took false is = ap not is
 
--- the model of a layer that is not spent
-pub model_is : (layer : Option LayerState) (value : Tree) → IsSome layer
-    → IfSome layer (λ l. value ≡ l.model) → value ≡ (unwrap_or layer empty_layer).model
+-- the model of a world that is not spent
+pub model_is : (world : Option WorldState) (value : Tree) → IsSome world
+    → IfSome world (λ w. value ≡ w.layer.model) → value ≡ (unwrap_or world empty_world).layer.model
 model_is None value live is = absurd (cc live)
 model_is (Some layer) value live is = is
+
+-- whether a command array was ignored by a world that is not spent
+pub ran_is : (world : Option WorldState) (value : Tree) (ran : Bool) → IsSome world
+    → IfSome world (λ w. ran ≡ not (is_ignored_command value w.layer))
+    → not ran ≡ is_ignored_command value (unwrap_or world empty_world).layer
+ran_is None value ran live is = absurd (cc live)
+ran_is (Some world) value ran live is = not_not ran (is_ignored_command value world.layer) is
+
+-- the line of a command array
+pub command_line : {T E : Type 0} (is_fault : E → Bool) (result : Result T E) (value : Tree)
+    (some other : Bool) (old new : SinkState) → some ≡ other
+    → Writes is_fault result old new (line_bytes (command value some))
+    → Writes is_fault result old new (lines_text (command value other ∷ []))
+command_line is_fault result value some other old new is wrote =
+    line_last is_fault result old new (command value other)
+    (subst (λ ignored. Writes is_fault result old new (line_bytes (command value ignored))) is wrote)
 
 -- the line of a message was not written whole
 pub message_part : {T U E : Type 0} (is_fault : E → Bool) (result : Result U E) (error : E)

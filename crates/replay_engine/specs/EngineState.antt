@@ -1,6 +1,6 @@
 -- An engine, as contracts see it, and what its calls do.
 use Rattle.std.specs.Prelude.{◌≡◌, ℕ, ◌*◌, ◌≤◌, false, true, Option, Result, Err, IsSome, OnOk}
-use Rattle.data_layer.specs.Layer.{seen}
+use Rattle.page_world.specs.Known.{seen}
 use Rattle.gtm_base.specs.Outside.{SinkState, Writes, and_then}
 use Rattle.replay_engine.specs.Jobs.{State, Ran}
 use Rattle.replay_engine.specs.Run.{lines_text}
@@ -10,7 +10,7 @@ use Rattle.replay_engine.specs.declared.event_model.EventModel.{EventModel}
 use Rattle.replay_engine.specs.declared.limits.TheConstants.{MAX_JOBS, MAX_STEPS}
 use Rattle.replay_engine.specs.declared.run_end.RunEnd.{RunEnd}
 use Rattle.replay_engine.specs.declared.run_end.RunEnd.TheVariants.{OutOfMemory, JobLimit}
-use Rattle.replay_engine.specs.declared.run_end.RunEnd.TheVariants.{SinkFault}
+use Rattle.replay_engine.specs.declared.run_end.RunEnd.TheVariants.{EngineRefused, SinkFault}
 
 -- where the run stands, and how it ended, where it did
 pub record EngineState : Type 0 where
@@ -21,9 +21,9 @@ pub record EngineState : Type 0 where
 abbrev pub state_at : EngineState → State
 state_at engine = state_in engine.standing
 
--- the layer is not spent, and no count is greater than its steps allow
+-- the world is not spent, and no count is greater than its steps allow
 pub record IsReady (model : EventModel) : Type 0 where
-  pub live : IsSome (seen model.layer)
+  pub live : IsSome (seen model.world)
   pub steps : model.steps ≤ MAX_STEPS
   pub jobs : model.jobs ≤ MAX_JOBS * model.steps
   pub events : model.events ≤ model.jobs
@@ -32,6 +32,7 @@ pub record IsReady (model : EventModel) : Type 0 where
 abbrev pub IsLimit : RunEnd → ℕ → Type 0
 IsLimit OutOfMemory step = ⊥
 IsLimit (JobLimit number) step = number ≡ step
+IsLimit (EngineRefused text) step = ⊥
 IsLimit SinkFault step = ⊥
 
 -- a step was run: its lines were written, or a front of them; where it needs no job more than it

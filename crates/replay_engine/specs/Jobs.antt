@@ -2,9 +2,11 @@
 use Rattle.std.specs.Prelude.{ℕ, zero, suc, ◌+◌, List, [], ◌∷◌, ◌++◌, Bool, true, false, not, ◌&&◌}
 use Rattle.std.specs.Prelude.{Option, Some, None, if◌then◌else◌}
 use Rattle.data_layer.specs.Command.{is_ignored_command, after_command}
-use Rattle.data_layer.specs.Layer.{LayerState, empty_layer, is_ignored, after_message}
+use Rattle.data_layer.specs.Layer.{is_ignored, after_message}
 use Rattle.export_model.specs.declared.container.Container.{Container}
+use Rattle.gtm_data.specs.Facts.{ids}
 use Rattle.gtm_data.specs.Tree.{Tree, list}
+use Rattle.page_world.specs.World.{WorldState, after_fact, empty_world, on_layer}
 use Rattle.replay_engine.specs.Messages.{event_of, begins_page, consent_message, init_message}
 use Rattle.run_log.specs.Lines.{LogLine, message, command, event}
 
@@ -32,25 +34,25 @@ pub record Waiting : Type 0 where
 abbrev pub nothing : Waiting
 nothing = record { own = []; early = []; deferred = []; messages = [] }
 
--- where a run stands: its container, the data layer, what waits, whether a page has begun, and how
+-- where a run stands: its container, the world of the page, what waits, whether a page has begun, and how
 -- many steps, jobs and events there were
 pub record State : Type 0 where
   pub container : Container
-  pub layer : LayerState
+  pub world : WorldState
   pub waiting : Waiting
   pub begun : Bool
   pub steps : ℕ
   pub jobs : ℕ
   pub events : ℕ
 
--- before the first step
+-- before the first step: the container's two names are known
 abbrev pub start : Container → State
 start container =
     record {
       container =
           container;
-      layer =
-          empty_layer;
+      world =
+          after_fact (ids container.public_id container.version_id) empty_world;
       waiting = nothing;
       begun = false;
       steps = 0;
@@ -131,8 +133,8 @@ abbrev pub take_message : State → Tree → Did
 take_message state value = record {
   state =
       record state {
-        layer =
-            after_message value state.layer;
+        world =
+            on_layer (after_message value) state.world;
         jobs =
             state.jobs + 1;
         events = state.events + one_if (event_of value);
@@ -143,8 +145,11 @@ take_message state value = record {
 -- a List is a command array
 abbrev pub take_command : State → Tree → Did
 take_command state value = record {
-  state = record state { layer = after_command value state.layer; jobs = state.jobs + 1 };
-  lines = command value (is_ignored_command value state.layer) ∷ [];
+  state = record state {
+    world = on_layer (after_command value) state.world;
+    jobs = state.jobs + 1;
+  };
+  lines = command value (is_ignored_command value state.world.layer) ∷ [];
 }
 
 -- what a pushed value does: a List is a command array, and any other value is a message

@@ -1,3 +1,4 @@
+pub mod Addresses
 pub mod EngineState
 pub mod Jobs
 pub mod Messages

@@ -5,16 +5,20 @@ use Rattle.export_model.specs.declared.container.Container.{Container}
 use Rattle.replay_engine.specs.Jobs.{State, start, Ran, own_message, take_jobs, with_messages}
 use Rattle.replay_engine.specs.declared.limits.TheConstants.{MAX_JOBS}
 use Rattle.run_log.specs.Lines.{LogLine, Counts, model, finish, line_bytes}
-use Rattle.trace_forms.specs.Steps.{Step, push}
+use Rattle.page_world.specs.World.{after_fact}
+use Rattle.replay_engine.specs.Addresses.{filled}
+use Rattle.trace_forms.specs.Steps.{Step, fact, push}
 
--- a step is counted, and the value of a push waits; the other steps make no job yet, and no trace
--- has one
+-- a step is counted; the value of a push waits, and a fact is taken, with its addresses read; the
+-- other steps make no job yet, and no trace has one
 abbrev pub begin_step : State → Step → State
 begin_step state (push value) =
     record (with_messages state (state.waiting.messages ++ own_message value ∷ [])) {
       steps =
           state.steps + 1;
     }
+begin_step state (fact f) =
+    record state { world = after_fact (filled f) state.world; steps = state.steps + 1 }
 begin_step state _ = record state { steps = state.steps + 1 }
 
 -- a step and its jobs
@@ -62,7 +66,7 @@ counts_of steps jobs events =
 -- the closing lines
 abbrev pub closing : State → List LogLine
 closing state =
-    model state.layer.model ∷ finish (counts_of state.steps state.jobs state.events) ∷ []
+    model state.world.layer.model ∷ finish (counts_of state.steps state.jobs state.events) ∷ []
 
 -- the text of lines of the log
 abbrev pub lines_text : List LogLine → List ℕ

@@ -1,9 +1,9 @@
 -- What the values of the program stand for.
 use Rattle.std.specs.Prelude.{ℕ, List, map, Bool, Option, unwrap_or}
-use Rattle.data_layer.specs.Layer.{empty_layer, seen}
 use Rattle.export_model.specs.declared.container.Container.{Container}
-use Rattle.gtm_data.specs.declared.data.Data.{Data}
 use Rattle.gtm_data.specs.Tree.{tree_of}
+use Rattle.page_world.specs.Known.{Known, seen}
+use Rattle.page_world.specs.World.{empty_world}
 use Rattle.replay_engine.specs.Jobs as spec
 use Rattle.replay_engine.specs.declared.event_model.EventModel.{EventModel}
 use Rattle.replay_engine.specs.declared.waiting.Job.{Job}
@@ -21,7 +21,7 @@ job_of (Pushed message) = spec.pushed (message_of message)
 -- where a run stands, in values of the program
 pub record Standing : Type 0 where
   pub container : Container
-  pub layer : Option (Data × List (List ℕ × Data))
+  pub world : Option Known
   pub own : List Job
   pub early : List Job
   pub deferred : List Job
@@ -35,7 +35,7 @@ pub record Standing : Type 0 where
 abbrev pub state_in : Standing → spec.State
 state_in standing = record {
   container = standing.container;
-  layer = unwrap_or (seen standing.layer) empty_layer;
+  world = unwrap_or (seen standing.world) empty_world;
   waiting = record {
     own = map job_of standing.own;
     early = map job_of standing.early;
@@ -52,7 +52,7 @@ state_in standing = record {
 abbrev pub standing_of : EventModel → Standing
 standing_of model = record {
   container = model.container;
-  layer = model.layer;
+  world = model.world;
   own = model.waiting.own.items;
   early = model.waiting.early.items;
   deferred = model.waiting.deferred.items;

@@ -10,6 +10,7 @@
 
 mod engine;
 mod event_model;
+mod facts;
 mod laws;
 mod limits;
 mod lines;

@@ -31,7 +31,7 @@ returns-in_default-clause-ready g c =
     let next = rw c.in_default.is at c.in_ok-job.ensures.next in
     let same = next.1 in
     record {
-      live = rw c.in_ok-job.ensures.layer c.loop-taken.invariant.live;
+      live = rw c.in_ok-job.ensures.world c.loop-taken.invariant.live;
       steps =
           omega (
             arith,
@@ -58,7 +58,7 @@ returns-in_default-clause-ready g c =
     }
 
 pub run_job-requires-clause-live : goal.run_job-requires-clause-live
-run_job-requires-clause-live g c = rw c.in_ok-job.ensures.layer c.loop-taken.invariant.live
+run_job-requires-clause-live g c = rw c.in_ok-job.ensures.world c.loop-taken.invariant.live
 
 pub run_job-requires-clause-jobs : goal.run_job-requires-clause-jobs
 run_job-requires-clause-jobs g c =

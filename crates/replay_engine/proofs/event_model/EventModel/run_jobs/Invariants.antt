@@ -1,5 +1,5 @@
 use Rattle.std.proofs.Common.{◌≡◌, ◌≤◌, ◌+◌, ◌-◌, IsSome}
-use Rattle.data_layer.specs.Layer.{seen}
+use Rattle.page_world.specs.Known.{seen}
 use Rattle.replay_engine.specs.Jobs.{take_jobs}
 use Rattle.replay_engine.specs.Views.{state_of}
 use Rattle.replay_engine.specs.declared.limits.TheConstants.{MAX_JOBS}
@@ -10,7 +10,7 @@ abbrev pub invariant-loop-taken : goal.invariant-loop-taken
 invariant-loop-taken g l = record {
   reached : Reaches (MAX_JOBS - l.taken) (state_of l.self) (take_jobs MAX_JOBS (state_of l.fn.self))
       (g.S.Sink.state l.fn.out) (g.S.Sink.state l.out);
-  live : IsSome (seen l.self.layer);
+  live : IsSome (seen l.self.world);
   steps : l.self.steps ≡ l.fn.self.steps;
   jobs : l.self.jobs ≤ l.fn.self.jobs + l.taken;
   events : l.self.events ≤ l.self.jobs;
