@@ -7,6 +7,7 @@ use Rattle.export_reader.specs.Container.{container_in}
 use Rattle.export_reader.specs.declared.loading.Loaded.{Loaded}
 use Rattle.export_reader.specs.declared.top.TheConstants.{MAX_EXPORT}
 use Rattle.gtm_base.specs.Causes.{Rose}
+use Rattle.gtm_base.specs.Engines.{EnginesState}
 use Rattle.gtm_base.specs.Outside.{FilesState, SinkState, Holdings, Holds, Lacks, ReadWithin}
 use Rattle.gtm_base.specs.Outside.{and_then}
 use Rattle.gtm_base.proofs.Pieces.{and_then-nil, front_none}
@@ -52,7 +53,8 @@ trace_not_open is_fault result files later names holdings told opens trace =
     (sym (open_name_at files.held holdings later.open_name names.export told
     (opens.open_name trace.is_open)) ∙ trace.open_name))
 
-module _ (names : Names) (files later : FilesState) (out : SinkState) (zero : files.faults ≡ 0)
+module _ (names : Names) (files later : FilesState) (out : SinkState) (engines : EnginesState)
+    (zero : files.faults ≡ 0)
   where
     abbrev Within : Type 0
     Within =
@@ -72,9 +74,9 @@ module _ (names : Names) (files later : FilesState) (out : SinkState) (zero : fi
         ]
 
     unread : Opened export.Unread → Within
-        → Replays names (status_of_export export.Unread) files later out out
+        → Replays names (status_of_export export.Unread) files later out out engines
     unread opens within = record {
-      headline = λ e t both still written. absurd (never_unread opens e both.export_is still);
+      headline = λ e t both still written none. absurd (never_unread opens e both.export_is still);
       ended = λ e t both tells. absurd tells;
       done = λ is. absurd (cc is);
       refused = λ is. absurd is;
@@ -87,6 +89,7 @@ module _ (names : Names) (files later : FilesState) (out : SinkState) (zero : fi
           ];
       missing_export = λ lacks. inr refl;
       missing_trace = λ lacks. inr (inl refl);
+      engine_refused = λ text is. absurd (cc is);
       sink_fault = λ is. absurd (cc is);
       not_usage = λ is. cc is;
       front = λ e t both. front_none out.taken (model_text e t);
@@ -96,6 +99,7 @@ module _ (names : Names) (files later : FilesState) (out : SinkState) (zero : fi
           λ is open_trace e t read left container both accepts told cut.
           absurd (trace_not_open is_export_fault _ files later names both.export_is.holdings
           both.export_is.told opens open_trace);
+      asked_for = λ text is e t container both accepted. absurd (cc is);
       opened = handed_one files.names later.names names.export (names.trace ∷ []) opens.names;
       refused_opened =
           λ e refusal holds broken. handed_one files.names later.names names.export [] opens.names;
@@ -108,9 +112,9 @@ module _ (names : Names) (files later : FilesState) (out : SinkState) (zero : fi
 
     refused : (rule : ℕ) (path : List ℕ) → Opened (export.Refused rule path) → Within
         → ((e : List ℕ) → Holds files.held names.export e → first_broken e ≡ Some (rule, path))
-        → Replays names (status_of_export (export.Refused rule path)) files later out out
+        → Replays names (status_of_export (export.Refused rule path)) files later out out engines
     refused rule path opens within broken_by = record {
-      headline = λ e t both still written. inr (record {
+      headline = λ e t both still written none. inr (record {
         status_is =
             sym (ap (λ b. status_over b (container_in e) (trace_of t)) (broken_by e both.export_is));
         text_is =
@@ -131,12 +135,14 @@ module _ (names : Names) (files later : FilesState) (out : SinkState) (zero : fi
       file_fault = λ is. absurd (cc is);
       missing_export = λ lacks. let failed = (opens.missing lacks).0 in absurd (cc failed);
       missing_trace = λ lacks. inr (inr (rule, path, refl));
+      engine_refused = λ text is. absurd (cc is);
       sink_fault = λ is. absurd (cc is);
       not_usage = λ is. cc is;
       front = λ e t both. front_none out.taken (model_text e t);
       nothing = λ unrun. refl;
       refused_nothing = λ other place is. refl;
       fault_text = λ is open_trace e t read left container both accepts told cut. absurd (cc is);
+      asked_for = λ text is e t container both accepted. absurd (cc is);
       opened = handed_one files.names later.names names.export (names.trace ∷ []) opens.names;
       refused_opened =
           λ e refusal holds broken. handed_one files.names later.names names.export [] opens.names;
@@ -148,9 +154,9 @@ module _ (names : Names) (files later : FilesState) (out : SinkState) (zero : fi
     }
 
     no_memory : Opened export.OutOfMemory → Within
-        → Replays names (status_of_export export.OutOfMemory) files later out out
+        → Replays names (status_of_export export.OutOfMemory) files later out out engines
     no_memory opens within = record {
-      headline = λ e t both still written. inl refl;
+      headline = λ e t both still written none. inl refl;
       ended = λ e t both tells. absurd tells;
       done = λ is. absurd (cc is);
       refused = λ is. absurd is;
@@ -159,12 +165,14 @@ module _ (names : Names) (files later : FilesState) (out : SinkState) (zero : fi
       file_fault = λ is. absurd (cc is);
       missing_export = λ lacks. inl refl;
       missing_trace = λ lacks. inl refl;
+      engine_refused = λ text is. absurd (cc is);
       sink_fault = λ is. absurd (cc is);
       not_usage = λ is. cc is;
       front = λ e t both. front_none out.taken (model_text e t);
       nothing = λ unrun. refl;
       refused_nothing = λ rule path is. refl;
       fault_text = λ is open_trace e t read left container both accepts told cut. absurd (cc is);
+      asked_for = λ text is e t container both accepted. absurd (cc is);
       opened = handed_one files.names later.names names.export (names.trace ∷ []) opens.names;
       refused_opened =
           λ e refusal holds broken. handed_one files.names later.names names.export [] opens.names;
@@ -178,7 +186,7 @@ module _ (names : Names) (files later : FilesState) (out : SinkState) (zero : fi
     -- an export that was not loaded
     pub not_loaded : (failure : ExportFailure) → Opened failure → Within
         → ((e : List ℕ) → Holds files.held names.export e → LoadAnswer e (Err failure))
-        → Replays names (status_of_export failure) files later out out
+        → Replays names (status_of_export failure) files later out out engines
     not_loaded export.Unread opens within answer = unread opens within
     not_loaded (export.Refused rule path) opens within answer = refused rule path opens within answer
     not_loaded export.OutOfMemory opens within answer = no_memory opens within

@@ -5,9 +5,9 @@ use Rattle.std.specs.Prelude.{Option, Some, None, Result, Ok, Err, IfErr, take}
 use Rattle.export_model.specs.declared.container.Container.{Container}
 use Rattle.gtm_base.specs.Outside.{SinkState, TookFront, Writes, and_then}
 use Rattle.gtm_base.proofs.Pieces.{and_then-append, and_then-nil, front_after, front_of_more}
-use Rattle.gtm_cli.specs.Failures.{is_out_fault, is_trace_fault, status_of_run}
+use Rattle.gtm_cli.specs.Failures.{RefusesNone, is_out_fault, is_trace_fault, status_of_run}
 use Rattle.gtm_cli.specs.Run.{closing_text, run_status, run_text, status_at}
-use Rattle.gtm_cli.specs.Running.{RunsOpen, RunsSteps, TellsEnd, WroteRun}
+use Rattle.gtm_cli.specs.Running.{RefusedAt, RunsOpen, RunsSteps, TellsEnd, WroteRun}
 use Rattle.gtm_cli.specs.declared.failures.RunFailure.{RunFailure}
 use Rattle.gtm_cli.specs.declared.failures.RunFailure.TheVariants as run
 use Rattle.replay_engine.specs.Jobs.{State, start}
@@ -35,17 +35,23 @@ not_unread : (failure : RunFailure) → is_trace_fault failure ≡ false → fai
 not_unread failure stays is = let true_is : is_trace_fault failure ≡ true = ap is_trace_fault is in
     let never : false ≡ true = sym stays ∙ true_is in cc never
 
+not_refused : (failure : RunFailure) (text : List ℕ) → RefusesNone failure
+    → failure ≡ run.EngineRefused text → ⊥
+not_refused failure text unrefused is = subst RefusesNone is unrefused
+
 -- the warnings were not written
 pub unbegun : (container : Container) (result : Result Unit RunFailure) (failure : RunFailure)
     (bytes left : List ℕ) (old new : SinkState) → result ≡ Err failure → bytes ≡ left
     → is_trace_fault failure ≡ false → (TellsEnd (status_of_run (Err failure)) → ⊥)
+    → RefusesNone failure
     → TookFront old.taken new.taken (lines_text (warnings container))
     → RunsOpen container result bytes old.taken new.taken left
-unbegun container result failure bytes left old new is same stays tells front =
+unbegun container result failure bytes left old new is same stays tells unrefused front =
     subst (λ r. RunsOpen container r bytes old.taken new.taken left) (sym is) (record {
       ended = λ end. absurd (tells end);
       front = front_of_more old.taken new.taken [] (run_text container (trace_of bytes)) front;
       fault_text = λ unread. absurd (not_unread failure stays (cc unread));
+      refused = λ text refused. absurd (not_refused failure text unrefused (cc refused));
       in_time = in_time_unread bytes left same;
     })
 
@@ -81,6 +87,7 @@ ended_by container (run.Refused line rule) after bytes left old new runs tells =
       text_at container bytes None (Some (record { line = line; rule = rule })) old new runs.ends
           (ap (λ r. closing_text None r (run_of container (trace_of bytes).steps).state) refusal),
     )
+ended_by container (run.EngineRefused text) after bytes left old new runs tells = absurd tells
 ended_by container (run.JobLimit step) after bytes left old new runs tells = (
   sym (ends_at container bytes (Some step) None old new runs.ends),
   text_at container bytes (Some step) None old new runs.ends refl,
@@ -94,6 +101,13 @@ fault_text_of : (container : Container) (failure : RunFailure) (after : State) (
     → RunsSteps (Err run.Unread) (start container) after bytes old new left
 fault_text_of container failure after bytes left old new is runs =
     subst (λ f. RunsSteps (Err f) (start container) after bytes old new left) is runs
+
+refusal_of : (container : Container) (failure : RunFailure) (after : State) (bytes left : List ℕ)
+    (old new : Option (List ℕ)) (text : List ℕ) → failure ≡ run.EngineRefused text
+    → RunsSteps (Err failure) (start container) after bytes old new left
+    → RefusedAt (start container) (trace_of bytes).steps text old new
+refusal_of container failure after bytes left old new text is runs =
+    (subst (λ f. RunsSteps (Err f) (start container) after bytes old new left) is runs).ends
 
 -- nothing was written but the warnings, which are none
 pub begun : {T : Type 0} (old new : SinkState) (container : Container) (value : T)
@@ -122,6 +136,9 @@ steps_failed container result failure state after bytes left first old new is st
           λ unread read cut.
           (fault_text_of container failure after bytes left first new (cc unread) runs).ends read
           cut;
+      refused =
+          λ text refused.
+          refusal_of container failure after bytes left first new text (cc refused) runs;
       in_time = runs.in_time;
     })
 
@@ -181,9 +198,10 @@ pub closed : (container : Container) (result : Result Unit RunFailure) (state af
     → Writes is_out_fault result middle new (lines_text (closing now))
     → IfErr result (λ failure. is_trace_fault failure ≡ false)
     → IfErr result (λ failure. TellsEnd (status_of_run (Err failure)) → ⊥)
+    → IfErr result RefusesNone
     → RunsOpen container result bytes first new.taken left
 closed container result state after now bytes left first old middle new value starts same goes
-    runs_here wrote_here stays tells =
+    runs_here wrote_here stays tells unrefused =
     let runs : RunsSteps (Ok value) (start container) after bytes first middle.taken left =
     subst (λ s. RunsSteps (Ok value) s after bytes first middle.taken left) starts
     (subst (λ o. RunsSteps (Ok value) state after bytes o middle.taken left) same runs_here) in
@@ -208,5 +226,8 @@ closed container result state after now bytes left first old middle new value st
           λ unread. absurd
           (not_unread run.Unread
           (if_err (λ f. is_trace_fault f ≡ false) result run.Unread stays unread) refl);
+      refused =
+          λ text refused.
+          absurd (if_err RefusesNone result (run.EngineRefused text) unrefused refused);
       in_time = runs.in_time;
     }

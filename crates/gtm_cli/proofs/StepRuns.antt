@@ -1,18 +1,21 @@
 -- The steps of a trace that are run as they are read.
 use Rattle.std.proofs.Common.{◌≡◌, ◌∙◌, ap, sym, subst, refl, ℕ, List, [], ◌∷◌, ◌++◌, Bool, true}
 use Rattle.std.proofs.Common.{false, append-nil}
-use Rattle.std.specs.Prelude.{Option, Some, None, Result, Ok, Err}
+use Rattle.std.specs.Prelude.{Contains, Option, Some, None, Result, Ok, Err, take}
 use Rattle.std.specs.Option.{ForSome}
+use Rattle.std.proofs.lemmas.List.{append_assoc}
 use Rattle.gtm_cli.proofs.Sames.{some_same}
 use Rattle.gtm_base.specs.Outside.{SinkState, TookFront, and_then}
 use Rattle.gtm_base.proofs.Pieces.{and_then-append, and_then-nil, front_all, front_after}
 use Rattle.gtm_base.proofs.Pieces.{front_of_more}
 use Rattle.gtm_cli.specs.Failures.{failure_of_run, failure_of_trace}
-use Rattle.gtm_cli.specs.Running.{RunsSteps, StepsEnd, WroteRun}
+use Rattle.gtm_cli.specs.Running.{RefusedAt, RunsSteps, StepsEnd, WroteRun}
 use Rattle.gtm_cli.specs.declared.failures.RunFailure.{RunFailure}
+use Rattle.replay_engine.specs.Addresses.{asked_texts}
 use Rattle.replay_engine.specs.EngineState.{EngineState, RunsStep, state_at}
 use Rattle.replay_engine.specs.Jobs.{State}
 use Rattle.replay_engine.specs.Run.{lines_text, run_from, step_run}
+use Rattle.replay_engine.specs.RunFault.{RefusesOnly}
 use Rattle.replay_engine.specs.declared.run_end.RunEnd.{RunEnd}
 use Rattle.replay_engine.specs.declared.run_end.RunEnd.TheVariants as engine
 use Rattle.replay_engine.proofs.LogLines.{lines_text-append}
@@ -280,19 +283,44 @@ running_on value state0 left0 out0 now later reader after left rest out new step
 
 -- ---- a step ended the run
 
+-- engines refused a text of this step, when a front of its lines was written
+refused_at : (state0 : State) (out0 : SinkState) (done rest : List Step) (step : Step)
+    (text : List ℕ) (out new : SinkState) (lines : List ℕ) (all : List Step)
+    → out.taken ≡ and_then out0.taken (lines_text (run_from state0 done).lines)
+    → all ≡ (done ++ step ∷ []) ++ rest → TookFront out.taken new.taken lines
+    → Contains (asked_texts step) text → RefusedAt state0 all text out0.taken new.taken
+refused_at state0 out0 done rest step text out new lines all taken steps front asks = record {
+  before = done;
+  step = step;
+  after = rest;
+  steps_are = steps ∙ append_assoc done (step ∷ []) rest;
+  asks = asks;
+  more = take front.count lines;
+  taken =
+      front.front ∙ ap (λ t. and_then t (take front.count lines)) taken
+      ∙ and_then-append out0.taken (lines_text (run_from state0 done).lines)
+      (take front.count lines);
+}
+
 step_ends : (end : RunEnd) (state0 after : State) (out0 : SinkState) (now : EngineState)
     (done rest : List Step) (bytes left : List ℕ) (step : TraceStep) (out new : SinkState)
     → (run_from state0 done).limit ≡ None → state_at now ≡ (run_from state0 done).state
     → out.taken ≡ and_then out0.taken (lines_text (run_from state0 done).lines)
     → (trace_of bytes).steps ≡ (done ++ step_of step ∷ []) ++ rest
     → RunsStep (Err end) (step_run (state_at now) (step_of step)) after out new
+    → RefusesOnly (asked_texts (step_of step)) end
     → StepsEnd (Err (failure_of_run end)) state0 after bytes left out0.taken new.taken
 step_ends engine.OutOfMemory state0 after out0 now done rest bytes left step out new none state
-    taken steps ran = tt
+    taken steps ran only = tt
 step_ends engine.SinkFault state0 after out0 now done rest bytes left step out new none state taken
-    steps ran = tt
+    steps ran only = tt
+step_ends (engine.EngineRefused text) state0 after out0 now done rest bytes left step out new none
+    state taken steps ran only =
+    refused_at state0 out0 done rest (step_of step) text out new
+    (lines_text (step_run (state_at now) (step_of step)).lines) (trace_of bytes).steps taken steps
+    ran.text.front only
 step_ends (engine.JobLimit number) state0 after out0 now done rest bytes left step out new none
-    state taken steps ran =
+    state taken steps ran only =
     let limit = ran.over number refl in
     let over : (step_run (run_from state0 done).state (step_of step)).over ≡ true =
     sym (ap (λ st. (step_run st (step_of step)).over) state) ∙ limit.0 in
@@ -331,9 +359,10 @@ pub runs_to_step : (end : RunEnd) (result : Result Unit RunFailure) (state0 : St
     → (running : IsRunning state0 left0 out0 now reader left out)
     → Leads (Ok asked) bytes running.done after rest
     → RunsStep (Err end) (step_run (state_at now) (step_of step)) (state_at later) out new
+    → RefusesOnly (asked_texts (step_of step)) end
     → RunsSteps result state0 (state_at later) bytes out0.taken new.taken rest
 runs_to_step end result state0 left0 out0 now later reader after left out new step asked bytes rest
-    is is_asked running told ran =
+    is is_asked running told ran only =
     let leads : Leads (Ok (Some step)) bytes running.done after rest =
     subst (λ o. Leads (Ok o) bytes running.done after rest) is_asked told in
     let front = stands_front bytes (running.done ++ step_of step ∷ []) after rest leads.stands in
@@ -341,7 +370,7 @@ runs_to_step end result state0 left0 out0 now later reader after left out new st
     (record {
       ends =
           step_ends end state0 (state_at later) out0 now running.done front.rest bytes rest step out
-          new running.none running.state running.taken front.steps ran;
+          new running.none running.state running.taken front.steps ran only;
       front =
           subst (λ s. TookFront out0.taken new.taken (lines_text (run_from state0 s).lines))
           (sym front.steps)

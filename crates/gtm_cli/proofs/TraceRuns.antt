@@ -33,6 +33,7 @@ unopened container name files later out closed = record {
   fault_text =
       λ is bytes read left holds open_now told cut. absurd (not_open later.is_open closed open_now);
   in_time = λ bytes holds open_now. absurd (not_open later.is_open closed open_now);
+  refused = λ text is. absurd (cc is);
   unopened = λ closed_now. refl;
 }
 
@@ -41,9 +42,21 @@ is_fault_of : (result : Result Unit RunFailure) → status_of_run result ≡ sta
 is_fault_of (Ok done) is = absurd (cc is)
 is_fault_of (Err run.Unread) is = refl
 is_fault_of (Err (run.Refused line rule)) is = absurd (cc is)
+is_fault_of (Err (run.EngineRefused text)) is = absurd (cc is)
 is_fault_of (Err (run.JobLimit step)) is = absurd (cc is)
 is_fault_of (Err run.Unwritten) is = absurd (cc is)
 is_fault_of (Err run.OutOfMemory) is = absurd (cc is)
+
+is_refusal_of : (result : Result Unit RunFailure) (text : List ℕ)
+    → status_of_run result ≡ status.EngineRefused text → result ≡ Err (run.EngineRefused text)
+is_refusal_of (Ok done) text is = absurd (cc is)
+is_refusal_of (Err run.Unread) text is = absurd (cc is)
+is_refusal_of (Err (run.Refused line rule)) text is = absurd (cc is)
+is_refusal_of (Err (run.EngineRefused other)) text is =
+    let same : other ≡ text = cc is in λ i. Err (run.EngineRefused (same i))
+is_refusal_of (Err (run.JobLimit step)) text is = absurd (cc is)
+is_refusal_of (Err run.Unwritten) text is = absurd (cc is)
+is_refusal_of (Err run.OutOfMemory) text is = absurd (cc is)
 
 in_time_at : (bytes : List ℕ) (left : Option (List ℕ))
     → ((rest : List ℕ) → left ≡ Some rest → StopsInTime bytes rest)
@@ -72,6 +85,10 @@ ran container result name files middle later out now all reads runs =
       fault_text =
           λ is bytes read left holds open_now told cut.
           (runs bytes left (all bytes holds) told).fault_text (is_fault_of result is) read cut;
+      refused =
+          λ text is bytes holds.
+          (runs bytes (at bytes holds).left (all bytes holds) (at bytes holds).told).refused text
+          (is_refusal_of result text is);
       in_time =
           λ bytes holds open_now.
           in_time_at bytes later.left

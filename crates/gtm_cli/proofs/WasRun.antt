@@ -1,31 +1,35 @@
 -- From a trace that was run to what `replay` promises.
-use Rattle.std.proofs.Common.{◌≡◌, ◌∙◌, sym, subst, refl, ℕ, ◌<◌, List, true}
+use Rattle.std.proofs.Common.{◌≡◌, ◌∙◌, ap, sym, subst, refl, ℕ, ◌<◌, List, true}
 use Rattle.std.proofs.Common.{false, inl, inr}
-use Rattle.std.specs.Prelude.{◌⊎◌, Option, Some, None, Result, Ok, Err}
+use Rattle.std.specs.Prelude.{◌⊎◌, Option, Some, None, Result, Ok, Err, encode_utf8_all}
 use Rattle.export_model.specs.declared.container.Container.{Container}
 use Rattle.export_reader.specs.FirstBroken.{first_broken}
 use Rattle.export_reader.specs.declared.loading.Loaded.{Loaded}
 use Rattle.gtm_base.specs.Causes.{Counts, has_failed}
+use Rattle.gtm_base.specs.Engines.{EnginesState, HandsOn}
 use Rattle.gtm_base.specs.Outside.{FilesState, SinkState, Holds, Lacks, TookFront}
 use Rattle.gtm_base.specs.Outside.{and_then}
 use Rattle.gtm_base.specs.declared.status.Status.{Status}
 use Rattle.gtm_base.specs.declared.status.Status.TheVariants as status
 use Rattle.gtm_cli.specs.Failures.{is_export_fault, is_out_fault, is_trace_fault, status_of_run}
+use Rattle.gtm_cli.specs.Failures.{trace_refusal}
 use Rattle.gtm_cli.specs.Models.{Accepts, IsModels, status_over, text_over}
 use Rattle.gtm_cli.specs.Opening.{OpensFile}
 use Rattle.gtm_cli.specs.Replays.{HoldBoth, IsRefusal, IsUnrun, LacksOne, Replays, refuses}
 use Rattle.gtm_cli.specs.Replays.{no_export, no_trace, unopened}
-use Rattle.gtm_cli.specs.Running.{RunsTrace, TellsEnd, read_text}
+use Rattle.gtm_cli.specs.Running.{RefusedAt, RunsTrace, TellsEnd, read_text}
 use Rattle.gtm_cli.specs.Words.{Names}
 use Rattle.gtm_cli.specs.declared.failures.RunFailure.{RunFailure}
 use Rattle.gtm_cli.specs.declared.failures.RunFailure.TheVariants as run
 use Rattle.gtm_cli.proofs.HandedNames.{handed_two}
 use Rattle.gtm_cli.proofs.NotLoaded.{not_lacking, not_risen, risen}
 use Rattle.gtm_cli.proofs.Sames.{some_same}
+use Rattle.replay_engine.specs.Jobs.{start}
 use Rattle.trace_reader.specs.Trace.{trace_of}
 
 module _ (names : Names) (files middle later : FilesState) (out now : SinkState)
-    (zero : files.faults ≡ 0) (out_zero : out.faults ≡ 0) (loaded : Loaded)
+    (engines engines_later : EnginesState) (zero : files.faults ≡ 0) (out_zero : out.faults ≡ 0)
+    (engines_zero : engines.count ≡ 0) (loaded : Loaded)
     (opens : OpensFile is_export_fault (Ok loaded) files middle names.export)
     (accepts : (e : List ℕ) → Holds files.held names.export e → Accepts e loaded.container)
   where
@@ -88,36 +92,46 @@ module _ (names : Names) (files middle later : FilesState) (out now : SinkState)
     headline_of : (result : Result Unit RunFailure)
         → OpensFile is_trace_fault result middle later names.trace
         → Counts (has_failed is_out_fault result) out.faults now.faults
+        → HandsOn trace_refusal result engines engines_later
         → RunsTrace loaded.container (status_of_run result) names.trace middle later out now
         → (e t : List ℕ) → HoldBoth files names e t → later.faults ≡ 0 → now.faults ≡ 0
+        → engines_later.count ≡ 0
         → (status_of_run result ≡ status.OutOfMemory)
         ⊎ IsModels e t (status_of_run result) out.taken now.taken
-    headline_of (Ok done) ends counted runs e t both still written =
+    headline_of (Ok done) ends counted hands runs e t both still written none =
         inr (models e t status.Done both runs tt)
-    headline_of (Err run.Unread) ends counted runs e t both still written =
+    headline_of (Err run.Unread) ends counted hands runs e t both still written none =
         absurd (elim (ends.failed refl) [
           | inl rose ↦ not_risen middle.faults later.faults middle_zero still rose
           | inr lacks ↦
               not_lacking files.held names.trace t both.trace_is (then_lacked names.trace lacks)
         ])
-    headline_of (Err (run.Refused line rule)) ends counted runs e t both still written =
+    headline_of (Err (run.Refused line rule)) ends counted hands runs e t both still written none =
         inr (models e t (status.TraceRefused line rule) both runs tt)
-    headline_of (Err (run.JobLimit step)) ends counted runs e t both still written =
+    headline_of (Err (run.EngineRefused text)) ends counted hands runs e t both still written none =
+        absurd (not_risen engines.count engines_later.count engines_zero none hands.left.counted)
+    headline_of (Err (run.JobLimit step)) ends counted hands runs e t both still written none =
         inr (models e t (status.JobLimit step) both runs tt)
-    headline_of (Err run.Unwritten) ends counted runs e t both still written =
+    headline_of (Err run.Unwritten) ends counted hands runs e t both still written none =
         absurd (not_risen out.faults now.faults out_zero written counted)
-    headline_of (Err run.OutOfMemory) ends counted runs e t both still written = inl refl
+    headline_of (Err run.OutOfMemory) ends counted hands runs e t both still written none = inl refl
 
     done_of : (result : Result Unit RunFailure)
         → OpensFile is_trace_fault result middle later names.trace
         → Counts (has_failed is_out_fault result) out.faults now.faults
-        → status_of_run result ≡ status.Done → (later.faults ≡ 0) × (now.faults ≡ 0)
-    done_of (Ok done) ends counted is = (ends.kept refl ∙ middle_zero, counted ∙ out_zero)
-    done_of (Err run.Unread) ends counted is = absurd (cc is)
-    done_of (Err (run.Refused line rule)) ends counted is = absurd (cc is)
-    done_of (Err (run.JobLimit step)) ends counted is = absurd (cc is)
-    done_of (Err run.Unwritten) ends counted is = absurd (cc is)
-    done_of (Err run.OutOfMemory) ends counted is = absurd (cc is)
+        → HandsOn trace_refusal result engines engines_later → status_of_run result ≡ status.Done
+        → (later.faults ≡ 0) × (now.faults ≡ 0) × (engines_later.count ≡ 0)
+    done_of (Ok done) ends counted hands is = (
+      ends.kept refl ∙ middle_zero,
+      counted ∙ out_zero,
+      ap (λ state. state.count) hands.left.kept ∙ engines_zero,
+    )
+    done_of (Err run.Unread) ends counted hands is = absurd (cc is)
+    done_of (Err (run.Refused line rule)) ends counted hands is = absurd (cc is)
+    done_of (Err (run.EngineRefused text)) ends counted hands is = absurd (cc is)
+    done_of (Err (run.JobLimit step)) ends counted hands is = absurd (cc is)
+    done_of (Err run.Unwritten) ends counted hands is = absurd (cc is)
+    done_of (Err run.OutOfMemory) ends counted hands is = absurd (cc is)
 
     refused_of : (result : Result Unit RunFailure)
         → OpensFile is_trace_fault result middle later names.trace → IsRefusal (status_of_run result)
@@ -125,6 +139,7 @@ module _ (names : Names) (files middle later : FilesState) (out now : SinkState)
     refused_of (Ok done) ends is = absurd is
     refused_of (Err run.Unread) ends is = absurd is
     refused_of (Err (run.Refused line rule)) ends is = ends.kept refl ∙ middle_zero
+    refused_of (Err (run.EngineRefused text)) ends is = absurd is
     refused_of (Err (run.JobLimit step)) ends is = absurd is
     refused_of (Err run.Unwritten) ends is = absurd is
     refused_of (Err run.OutOfMemory) ends is = absurd is
@@ -134,6 +149,7 @@ module _ (names : Names) (files middle later : FilesState) (out now : SinkState)
     never_refused (Ok done) rule path is = cc is
     never_refused (Err run.Unread) rule path is = cc is
     never_refused (Err (run.Refused line other)) rule path is = cc is
+    never_refused (Err (run.EngineRefused text)) rule path is = cc is
     never_refused (Err (run.JobLimit step)) rule path is = cc is
     never_refused (Err run.Unwritten) rule path is = cc is
     never_refused (Err run.OutOfMemory) rule path is = cc is
@@ -142,6 +158,7 @@ module _ (names : Names) (files middle later : FilesState) (out now : SinkState)
     never_usage (Ok done) is = cc is
     never_usage (Err run.Unread) is = cc is
     never_usage (Err (run.Refused line other)) is = cc is
+    never_usage (Err (run.EngineRefused text)) is = cc is
     never_usage (Err (run.JobLimit step)) is = cc is
     never_usage (Err run.Unwritten) is = cc is
     never_usage (Err run.OutOfMemory) is = cc is
@@ -157,6 +174,7 @@ module _ (names : Names) (files middle later : FilesState) (out now : SinkState)
               (lacks_trace (then_lacked names.trace lacks) (lacks.holdings names.export) refl)
         ]
     fault_of (Err (run.Refused line rule)) ends is = absurd (cc is)
+    fault_of (Err (run.EngineRefused text)) ends is = absurd (cc is)
     fault_of (Err (run.JobLimit step)) ends is = absurd (cc is)
     fault_of (Err run.Unwritten) ends is = absurd (cc is)
     fault_of (Err run.OutOfMemory) ends is = absurd (cc is)
@@ -167,15 +185,33 @@ module _ (names : Names) (files middle later : FilesState) (out now : SinkState)
     sink_of (Ok done) counted is = absurd (cc is)
     sink_of (Err run.Unread) counted is = absurd (cc is)
     sink_of (Err (run.Refused line rule)) counted is = absurd (cc is)
+    sink_of (Err (run.EngineRefused text)) counted is = absurd (cc is)
     sink_of (Err (run.JobLimit step)) counted is = absurd (cc is)
     sink_of (Err run.Unwritten) counted is = risen out.faults now.faults out_zero counted
     sink_of (Err run.OutOfMemory) counted is = absurd (cc is)
+
+    engine_of : (result : Result Unit RunFailure)
+        → HandsOn trace_refusal result engines engines_later → (text : List ℕ)
+        → status_of_run result ≡ status.EngineRefused text
+        → (0 < engines_later.count) × (engines_later.last ≡ encode_utf8_all text)
+    engine_of (Ok done) hands text is = absurd (cc is)
+    engine_of (Err run.Unread) hands text is = absurd (cc is)
+    engine_of (Err (run.Refused line rule)) hands text is = absurd (cc is)
+    engine_of (Err (run.EngineRefused other)) hands text is =
+        let same : other ≡ text = cc is in (
+          risen engines.count engines_later.count engines_zero hands.left.counted,
+          hands.left.told ∙ ap encode_utf8_all same,
+        )
+    engine_of (Err (run.JobLimit step)) hands text is = absurd (cc is)
+    engine_of (Err run.Unwritten) hands text is = absurd (cc is)
+    engine_of (Err run.OutOfMemory) hands text is = absurd (cc is)
 
     missing_of : (result : Result Unit RunFailure) → has_failed is_trace_fault result ≡ true
         → status_of_run result ≡ status.FileFault
     missing_of (Ok done) failed = absurd (cc failed)
     missing_of (Err run.Unread) failed = refl
     missing_of (Err (run.Refused line rule)) failed = absurd (cc failed)
+    missing_of (Err (run.EngineRefused text)) failed = absurd (cc failed)
     missing_of (Err (run.JobLimit step)) failed = absurd (cc failed)
     missing_of (Err run.Unwritten) failed = absurd (cc failed)
     missing_of (Err run.OutOfMemory) failed = absurd (cc failed)
@@ -204,12 +240,13 @@ module _ (names : Names) (files middle later : FilesState) (out now : SinkState)
     pub was_run : (result : Result Unit RunFailure)
         → OpensFile is_trace_fault result middle later names.trace
         → Counts (has_failed is_out_fault result) out.faults now.faults
+        → HandsOn trace_refusal result engines engines_later
         → RunsTrace loaded.container (status_of_run result) names.trace middle later out now
-        → Replays names (status_of_run result) files later out now
-    was_run result ends counted runs = record {
-      headline = headline_of result ends counted runs;
+        → Replays names (status_of_run result) files later out now engines_later
+    was_run result ends counted hands runs = record {
+      headline = headline_of result ends counted hands runs;
       ended = λ e t both tells. models e t (status_of_run result) both runs tells;
-      done = done_of result ends counted;
+      done = done_of result ends counted hands;
       refused = refused_of result ends;
       export_refused = λ e holds rule path is. absurd (never_refused result rule path is);
       refuses_export =
@@ -218,6 +255,7 @@ module _ (names : Names) (files middle later : FilesState) (out now : SinkState)
       missing_export = λ lacks. absurd (was_there lacks);
       missing_trace =
           λ lacks. inr (inl (missing_of result (ends.missing (still_lacks names.trace lacks)).0));
+      engine_refused = engine_of result hands;
       sink_fault = sink_of result counted;
       not_usage = never_usage result;
       front = λ e t both.
@@ -232,6 +270,10 @@ module _ (names : Names) (files middle later : FilesState) (out now : SinkState)
           (same_container e container both.export_is accepted)
           (runs.fault_text is t read left (still_holds names.trace t both.trace_is) open_trace.is_open
           told cut);
+      asked_for = λ text is e t container both accepted.
+          subst (λ c. RefusedAt (start c) (trace_of t).steps text out.taken now.taken)
+          (same_container e container both.export_is accepted)
+          (runs.refused text is t (still_holds names.trace t both.trace_is));
       opened =
           handed_two files.names middle.names later.names names.export names.trace opens.names
           ends.names;

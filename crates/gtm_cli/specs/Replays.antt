@@ -1,9 +1,10 @@
 -- What `replay` promises of the words `run EXPORT TRACE`.
 use Rattle.std.specs.Prelude.{◌≡◌, ◌≢◌, ◌⊎◌, ◌+◌, ◌<◌, ℕ, List, [], ◌∷◌, ◌++◌, take, false, IsTrue}
-use Rattle.std.specs.Prelude.{Option, Some, None, IfSome}
+use Rattle.std.specs.Prelude.{Option, Some, None, IfSome, encode_utf8_all}
 use Rattle.export_model.specs.declared.container.Container.{Container}
 use Rattle.export_reader.specs.FirstBroken.{first_broken}
 use Rattle.export_reader.specs.declared.top.TheConstants.{MAX_EXPORT}
+use Rattle.gtm_base.specs.Engines.{EnginesState}
 use Rattle.gtm_base.specs.Outside.{FilesState, SinkState, Holds, Lacks, ReadWithin}
 use Rattle.gtm_base.specs.Outside.{TookFront, and_then}
 use Rattle.gtm_base.specs.declared.status.Status.{Status}
@@ -11,9 +12,11 @@ use Rattle.gtm_base.specs.declared.status.Status.TheVariants.{Done, Usage, FileF
 use Rattle.gtm_base.specs.declared.status.Status.TheVariants.{TraceRefused, EngineRefused}
 use Rattle.gtm_base.specs.declared.status.Status.TheVariants.{JobLimit, SinkFault, OutOfMemory}
 use Rattle.gtm_cli.specs.Models.{Accepts, IsModels, model_text}
-use Rattle.gtm_cli.specs.Running.{TellsEnd, read_text}
+use Rattle.gtm_cli.specs.Running.{RefusedAt, TellsEnd, read_text}
 use Rattle.gtm_cli.specs.Words.{Names}
+use Rattle.replay_engine.specs.Jobs.{start}
 use Rattle.trace_lines.specs.Standing.{StopsInTime}
+use Rattle.trace_reader.specs.Trace.{trace_of}
 
 -- the files tell that the two names hold these bytes
 pub record HoldBoth (files : FilesState) (names : Names) (export trace : List ℕ) : Type 0 where
@@ -64,16 +67,16 @@ IsRefusal OutOfMemory = ⊥
 
 -- the status, and what was written and read, of a run over the files of these names
 pub record Replays (names : Names) (status : Status) (files later : FilesState)
-    (out now : SinkState) : Type 0 where
+    (out now : SinkState) (engines : EnginesState) : Type 0 where
   -- The headline: where no call failed, the status and the text are the model's, or memory was
   -- wanting.
   pub headline : (e t : List ℕ) → HoldBoth files names e t → later.faults ≡ 0 → now.faults ≡ 0
-      → (status ≡ OutOfMemory) ⊎ IsModels e t status out.taken now.taken
+      → engines.count ≡ 0 → (status ≡ OutOfMemory) ⊎ IsModels e t status out.taken now.taken
   -- When each status comes.
   -- One that tells how a run ends is the model's, and the whole text was written.
   pub ended : (e t : List ℕ) → HoldBoth files names e t → TellsEnd status
       → IsModels e t status out.taken now.taken
-  pub done : status ≡ Done → (later.faults ≡ 0) × (now.faults ≡ 0)
+  pub done : status ≡ Done → (later.faults ≡ 0) × (now.faults ≡ 0) × (engines.count ≡ 0)
   -- A refusal comes where no call of the files failed.
   pub refused : IsRefusal status → later.faults ≡ 0
   pub export_refused : (e : List ℕ) → Holds files.held names.export e → (rule : ℕ) (path : List ℕ)
@@ -87,6 +90,8 @@ pub record Replays (names : Names) (status : Status) (files later : FilesState)
       → (status ≡ OutOfMemory)
       ⊎ ((status ≡ FileFault)
       ⊎ ((rule : ℕ) × (path : List ℕ) × (status ≡ ExportRefused rule path)))
+  pub engine_refused : (text : List ℕ) → status ≡ EngineRefused text
+      → (0 < engines.count) × (engines.last ≡ encode_utf8_all text)
   pub sink_fault : status ≡ SinkFault → 0 < now.faults
   pub not_usage : status ≢ Usage
   -- What was written.
@@ -103,6 +108,11 @@ pub record Replays (names : Names) (status : Status) (files later : FilesState)
       → Accepts e container
       → later.left ≡ Some left → t ≡ read ++ left
       → now.taken ≡ and_then out.taken (read_text container read)
+  -- Where engines refused a text, it is one that a step of the trace asks them for, and at least the
+  -- whole text of the steps before it.
+  pub asked_for : (text : List ℕ) → status ≡ EngineRefused text
+      → (e t : List ℕ) (container : Container) → HoldBoth files names e t → Accepts e container
+      → RefusedAt (start container) (trace_of t).steps text out.taken now.taken
   -- What was opened and read.
   pub opened : Handed files.names later.names (names.export ∷ names.trace ∷ [])
   -- With an export that breaks a rule, EXPORT alone, and of it no byte behind the first that shows

@@ -1,6 +1,6 @@
 -- What the parts of a run answer, and what they leave.
 use Rattle.std.specs.Prelude.{◌≡◌, ℕ, List, ◌++◌, false, IsTrue, Option, Some, None, IfSome}
-use Rattle.std.specs.Prelude.{Result, Ok, Err}
+use Rattle.std.specs.Prelude.{◌∷◌, Contains, Result, Ok, Err}
 use Rattle.export_model.specs.declared.container.Container.{Container}
 use Rattle.export_reader.specs.FirstBroken.{first_broken}
 use Rattle.export_reader.specs.declared.loading.Loaded.{Loaded}
@@ -14,8 +14,10 @@ use Rattle.gtm_cli.specs.declared.failures.ExportFailure.{ExportFailure}
 use Rattle.gtm_cli.specs.declared.failures.ExportFailure.TheVariants as export
 use Rattle.gtm_cli.specs.declared.failures.RunFailure.{RunFailure}
 use Rattle.gtm_cli.specs.declared.failures.RunFailure.TheVariants as run
-use Rattle.replay_engine.specs.Jobs.{State}
+use Rattle.replay_engine.specs.Addresses.{asked_texts}
+use Rattle.replay_engine.specs.Jobs.{State, start}
 use Rattle.replay_engine.specs.Run.{lines_text, run_from, steps_text}
+use Rattle.trace_forms.specs.Steps.{Step}
 use Rattle.trace_lines.specs.Lines.{finished}
 use Rattle.trace_lines.specs.Standing.{StopsInTime}
 use Rattle.trace_reader.specs.Trace.{BadLine, trace_of, trace_of_lines}
@@ -56,6 +58,18 @@ pub record WroteRun (state : State) (bytes : List ℕ) (limit : Option ℕ) (ref
   pub refusal_is : limit ≡ None → (trace_of bytes).refusal ≡ refusal
   pub text : new ≡ and_then old (lines_text (run_from state (trace_of bytes).steps).lines)
 
+-- one of these steps asks engines for this text, and at least the whole text of the steps before it
+-- was written
+pub record RefusedAt (state : State) (steps : List Step) (text : List ℕ)
+    (old new : Option (List ℕ)) : Type 0 where
+  pub before : List Step
+  pub step : Step
+  pub after : List Step
+  pub steps_are : steps ≡ before ++ step ∷ after
+  pub asks : Contains (asked_texts step) text
+  pub more : List ℕ
+  pub taken : new ≡ and_then old (lines_text (run_from state before).lines ++ more)
+
 -- how the steps of a trace's bytes were run from this state on, where these bytes are left of the
 -- file
 abbrev pub StepsEnd : (result : Result Unit RunFailure) (state after : State) (bytes left : List ℕ)
@@ -64,6 +78,8 @@ StepsEnd (Ok done) state after bytes left old new =
     WroteRun state bytes None None old new × (after ≡ (run_from state (trace_of bytes).steps).state)
 StepsEnd (Err (run.Refused line rule)) state after bytes left old new =
     WroteRun state bytes None (Some (record { line = line; rule = rule })) old new
+StepsEnd (Err (run.EngineRefused text)) state after bytes left old new =
+    RefusedAt state (trace_of bytes).steps text old new
 StepsEnd (Err (run.JobLimit step)) state after bytes left old new =
     WroteRun state bytes (Some step) None old new
 StepsEnd (Err run.Unread) state after bytes left old new =
@@ -90,6 +106,8 @@ pub record RunsOpen (container : Container) (result : Result Unit RunFailure) (b
   pub front : TookFront old new (run_text container (trace_of bytes))
   pub fault_text : result ≡ Err run.Unread → (read : List ℕ) → bytes ≡ read ++ left
       → new ≡ and_then old (read_text container read)
+  pub refused : (text : List ℕ) → result ≡ Err (run.EngineRefused text)
+      → RefusedAt (start container) (trace_of bytes).steps text old new
   pub in_time : StopsInTime bytes left
 
 -- how the trace of a name was run over a container
@@ -108,6 +126,11 @@ pub record RunsTrace (container : Container) (ends : Status) (name : List ℕ)
       → Holds files.held name bytes → IsTrue later.is_open → later.left ≡ Some left
       → bytes ≡ read ++ left
       → now.taken ≡ and_then out.taken (read_text container read)
+  -- engines are asked for the text that they refused by a step of the trace, and at least the whole
+  -- text of the steps before it was written
+  pub refused : (text : List ℕ) → ends ≡ status.EngineRefused text → (bytes : List ℕ)
+      → Holds files.held name bytes
+      → RefusedAt (start container) (trace_of bytes).steps text out.taken now.taken
   -- no byte was read behind the first that shows that a line is too long
   pub in_time : (bytes : List ℕ) → Holds files.held name bytes → IsTrue later.is_open
       → IfSome later.left (StopsInTime bytes)

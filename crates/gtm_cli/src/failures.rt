@@ -41,12 +41,14 @@ impl ExportFailure {
 }
 
 /// Why the run of a trace ended before its closing lines.
-#[derive(Clone, Copy, Debug, PartialEq, Eq)]
+#[derive(Debug, Drop, PartialEq, Eq)]
 pub enum RunFailure {
     /// The file of the trace could not be opened or read.
     Unread,
     /// This line of the trace is the first bad one, and breaks this rule.
     Refused { line: u64, rule: u8 },
+    /// Engines refused this text.
+    EngineRefused { text: Text },
     /// This step needs one job more than it may have.
     JobLimit { step: u64 },
     /// The run could not be written.
@@ -75,6 +77,7 @@ impl From<RunEnd> for RunFailure {
     fn from(end: RunEnd) -> Self {
         match end {
             RunEnd::OutOfMemory => RunFailure::OutOfMemory,
+            RunEnd::EngineRefused { text } => RunFailure::EngineRefused { text },
             RunEnd::JobLimit { step } => RunFailure::JobLimit { step },
             RunEnd::SinkFault => RunFailure::Unwritten,
         }
@@ -104,6 +107,7 @@ pub fn status_of_run(ending: Result<(), RunFailure>) -> Status
         Ok(()) => Status::Done,
         Err(RunFailure::Unread) => Status::FileFault,
         Err(RunFailure::Refused { line, rule }) => Status::TraceRefused { line, rule },
+        Err(RunFailure::EngineRefused { text }) => Status::EngineRefused { text },
         Err(RunFailure::JobLimit { step }) => Status::JobLimit { step },
         Err(RunFailure::Unwritten) => Status::SinkFault,
         Err(RunFailure::OutOfMemory) => Status::OutOfMemory,

@@ -1,7 +1,7 @@
 use Rattle.std.proofs.Common.{◌∙◌, ap}
 use Rattle.gtm_base.proofs.WrittenPieces.{writes_as}
 use Rattle.gtm_cli.specs.Failures.{is_out_fault, is_trace_fault}
-use Rattle.gtm_cli.proofs.Failing.{no_trace_fault, out_fault_is, tells_no_end}
+use Rattle.gtm_cli.proofs.Failing.{no_trace_fault, out_fault_is, refuses_no_text, tells_no_end}
 use Rattle.gtm_cli.proofs.trace_run.begin.Goals as goal
 use Rattle.replay_engine.specs.RunFault.{is_run_fault}
 
@@ -19,3 +19,8 @@ returns-in-Err-clause-ends g c =
 pub returns-in-Err-clause-fault : goal.returns-in-Err-clause-fault
 returns-in-Err-clause-fault g c =
     ap is_trace_fault c.from.ensures ∙ no_trace_fault c.in-Err.end
+
+pub returns-in-Err-clause-unrefused : goal.returns-in-Err-clause-unrefused
+returns-in-Err-clause-unrefused g c =
+    refuses_no_text c.in-Err.end _ c.from.ensures
+    (rw c.in_ok-engine.ensures.ended at c.in-Err.ensures.unlimited)

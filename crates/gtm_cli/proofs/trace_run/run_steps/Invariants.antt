@@ -16,6 +16,7 @@ invariant-loop-step g l = record {
   running : IsRunning (state_at l.fn.engine) (g.F.Files.state l.fn.files).left
       (g.S.Sink.state l.fn.out) l.engine l.reader (g.F.Files.state l.files).left
       (g.S.Sink.state l.out);
+  engines : g.E.Engines.state l.engines ≡ g.E.Engines.state l.fn.engines;
   going : l.engine.ended ≡ None;
   reading : l.reader.ended ≡ None;
   within : before_of l.reader ≤ MAX_TRACE;

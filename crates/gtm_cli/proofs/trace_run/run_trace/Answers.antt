@@ -1,4 +1,6 @@
+use Rattle.std.proofs.Common.{refl}
 use Rattle.gtm_cli.proofs.EnoughRead.{opened}
+use Rattle.gtm_cli.proofs.Failing.{unasked}
 use Rattle.gtm_cli.proofs.TraceRuns.{closed_by, ran, unopened}
 use Rattle.gtm_cli.proofs.trace_run.run_trace.Goals as goal
 
@@ -14,3 +16,6 @@ returns-clause-runs g c =
     opened c.open.result _ _ _ bytes c.if-is_err.ensures.value holds
     c.open.ensures) c.run_open.ensures.files
     (λ bytes left is told. c.run_open.ensures.runs bytes left is told)
+
+pub returns-then-is_err-clause-engines : goal.returns-then-is_err-clause-engines
+returns-then-is_err-clause-engines g c = unasked _ _ _ refl tt
