@@ -3,6 +3,7 @@
 
 ghost use Rattle.std.specs.Prelude.{◌≡◌, IfOk};
 
+use engine_forms::PackEngines;
 use gtm_base::{DiskFiles, OutOfMemory, OutSink, Status, put};
 use gtm_cli::replay;
 use std::env;
@@ -55,7 +56,15 @@ fn run(rt: HostRuntime, begun: Begun) -> Status
         mut err,
     } = begun;
     let mut files = DiskFiles::new(alloc, rt);
-    let mut status = replay(alloc, words.as_slice(), &mut files, &mut out, &mut err);
+    let mut engines = PackEngines::new(alloc);
+    let mut status = replay(
+        alloc,
+        words.as_slice(),
+        &mut files,
+        &mut out,
+        &mut err,
+        &mut engines,
+    );
     let finished = out.finish();
     if matches!(status, Status::Done) && finished.is_err() {
         let _ = put(&mut err, b"gtm_replay: cannot write\n");

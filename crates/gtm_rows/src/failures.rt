@@ -123,7 +123,7 @@ fn failing_reports(rt: HostRuntime) -> Result<(), Fail> {
         let failing = Failing {
             files: ending.files,
             out: ending.out,
-            err: 0,
+            ..NONE
         };
         let ran = run_over(rt.alloc(), ending.export, ending.trace, failing)?;
         assert_eq!(rt; ran.status.code(), ending.status);

@@ -22,6 +22,8 @@ mod merges;
 #[cfg(test)]
 mod outside;
 #[cfg(test)]
+mod pages;
+#[cfg(test)]
 mod rows;
 #[cfg(test)]
 mod slow;

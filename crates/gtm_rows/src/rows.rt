@@ -1,4 +1,5 @@
 use crate::{NONE, run_over};
+use engine_forms::PlannedEngines;
 use gtm_base::{MemFiles, MemSink, OutOfMemory};
 use gtm_cli::replay;
 use std::alloc::Global;
@@ -186,10 +187,10 @@ const ROWS: &[Row] = &[
     },
     Row {
         name: "another form, and one that is not run yet",
-        trace: b"{\"push\":1}\n{\"page\":{}}\n",
+        trace: b"{\"push\":1}\n{\"page\":{}}\n{\"load\":1,\"ok\":true}\n",
         status: 5,
         out: b"message 1 ignored\n",
-        err: b"gtm_replay: trace: line 2 rule 8\n",
+        err: b"gtm_replay: trace: line 3 rule 8\n",
     },
     Row {
         name: "a load of a number that is none",
@@ -370,7 +371,15 @@ fn commands(rt: HostRuntime) -> Result<(), Fail> {
         files.add("e.json", EXPORT)?;
         let mut out = MemSink::new(rt.alloc());
         let mut err = MemSink::new(rt.alloc());
-        let status = replay(rt.alloc(), words.as_slice(), &mut files, &mut out, &mut err);
+        let mut engines = PlannedEngines::new(rt.alloc());
+        let status = replay(
+            rt.alloc(),
+            words.as_slice(),
+            &mut files,
+            &mut out,
+            &mut err,
+            &mut engines,
+        );
         assert_eq!(rt; status.code(), row.status);
         assert_eq!(rt; err.bytes(), row.err);
         assert!(rt; out.bytes().is_empty());

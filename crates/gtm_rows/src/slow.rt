@@ -1,3 +1,4 @@
+use engine_forms::PlannedEngines;
 use gtm_base::{MemFiles, MemSink, OutOfMemory};
 use gtm_cli::replay;
 use slow_files::OneByte;
@@ -66,7 +67,8 @@ fn run_slowly(alloc: Global, call: u64) -> Result<(u8, MemSink), OutOfMemory> {
     ];
     let mut out = MemSink::new(alloc);
     let mut err = MemSink::new(alloc);
-    let status = replay(alloc, &words, &mut slow, &mut out, &mut err);
+    let mut engines = PlannedEngines::new(alloc);
+    let status = replay(alloc, &words, &mut slow, &mut out, &mut err, &mut engines);
     Ok((status.code(), out))
 }
 

@@ -50,6 +50,15 @@ returns-clause-unwritten c =
     let replays = rw named at c.replay-status.ensures.run in
     replays.sink_fault
 
+pub returns-clause-refused : goal.returns-clause-refused
+returns-clause-refused c =
+    let named =
+    names_of_words c.in_ok-from_str.field-0 c.in_ok-from_str-2.field-0
+    c.in_ok-from_str-3.field-0
+    c.in_ok-from_str.ensures.ok c.in_ok-from_str-2.ensures.ok c.in_ok-from_str-3.ensures.ok in
+    let replays = rw named at c.replay-status.ensures.run in
+    replays.engine_refused
+
 pub returns-clause-names : goal.returns-clause-names
 returns-clause-names c =
     let named =
