@@ -105,8 +105,11 @@ def run(lines):
     for line in lines:
         if not line.strip(' \t\r\n'):
             continue
-        waiting = [read(line)['push']]
+        step = read(line)
         steps += 1
+        if 'push' not in step:
+            continue
+        waiting = [step['push']]
         if not begun and isinstance(waiting[0], dict) and waiting[0].get('event') == 'gtm.js':
             begun = True
             waiting[:0] = [{'event': 'gtm.init_consent'}, {'event': 'gtm.init'}]

@@ -1,9 +1,0 @@
-use Rattle.export_params.proofs.Unique.{only_cut}
-use Rattle.export_params.proofs.Wholes.{cut_whole}
-use Rattle.export_params.proofs.laws.a_text_is_cut_whole.Goals as goal
-
-pub returns-clause-whole : goal.returns-clause-whole
-returns-clause-whole c = cut_whole
-
-pub returns-clause-only : goal.returns-clause-only
-returns-clause-only c = λ text pieces. only_cut pieces text

@@ -1,8 +1,0 @@
-use Rattle.std.proofs.Common.{lit<}
-use Rattle.export_params.proofs.Splits.{splits, close_chars}
-use Rattle.export_params.proofs.pieces.around_close.Goals as goal
-
-pub returns : goal.returns
-returns c =
-    splits 125 (lit< tt) close_chars c.args.text.now c.split_once.result c.utf8.text
-    c.split_once.ensures.cases

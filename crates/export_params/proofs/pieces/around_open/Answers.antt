@@ -1,8 +1,0 @@
-use Rattle.std.proofs.Common.{lit<}
-use Rattle.export_params.proofs.Splits.{splits, open_chars}
-use Rattle.export_params.proofs.pieces.around_open.Goals as goal
-
-pub returns : goal.returns
-returns c =
-    splits 123 (lit< tt) open_chars c.args.text.now c.split_once.result c.utf8.text
-    c.split_once.ensures.cases

@@ -1,5 +1,0 @@
-pub mod Cut
-pub mod LookedUp
-pub mod Names
-pub mod Params
-pub mod Whole
