@@ -1,0 +1,4 @@
+pub mod Agreement
+pub mod AskedTexts
+pub mod Found
+pub mod Trees

@@ -1,0 +1,11 @@
+pub mod Addresses
+pub mod BuiltIns
+pub mod Ends
+pub mod Fields
+pub mod Formats
+pub mod Found
+pub mod Kinds
+pub mod Moment
+pub mod Patterns
+pub mod Resolved
+pub mod Sources
