@@ -1,0 +1,7 @@
+pub mod Conditions
+pub mod Filtered
+pub mod Groups
+pub mod Kept
+pub mod Merges
+pub mod Places
+pub mod Within
