@@ -1,0 +1,4 @@
+pub mod Grammar
+pub mod InRange
+pub mod Kinds
+pub mod Tokens
