@@ -1,0 +1,6 @@
+pub mod Acts
+pub mod Built
+pub mod Notes
+pub mod Runs
+pub mod Symbols
+pub mod Table
