@@ -1,0 +1,5 @@
+pub mod Complete
+pub mod OneScript
+pub mod Params
+pub mod Probes
+pub mod Skips
