@@ -1,0 +1,9 @@
+pub mod Begins
+pub mod ExprKept
+pub mod Finish
+pub mod Good
+pub mod Judged
+pub mod Kept
+pub mod Last
+pub mod ListKept
+pub mod StmtKept
