@@ -1,10 +1,8 @@
--- The places of triggers that pass a test, one trigger after the other.
+-- The places of items that pass a test, one item after the other.
 use Rattle.std.proofs.Common.{◌≡◌, ◌<◌, ◌≤◌, ◌+◌, ℕ, List, [], ◌∷◌, ◌++◌, length, Bool, true}
 use Rattle.std.proofs.Common.{false, get_or, take, refl, ap, sym, ◌∙◌, subst, arith}
 use Rattle.std.proofs.lemmas.List.{length-take-le, take_more}
 use Rattle.std.specs.List.{AllByRecursion}
-use Rattle.export_model.specs.declared.triggers.Trigger.{Trigger}
-use Rattle.export_model.specs.declared.triggers.TriggerKind.{TriggerKind}
 use Rattle.gtm_triggers.specs.Holding.{places_from}
 use Rattle.gtm_triggers.specs.Indexed.{put_if}
 
@@ -13,8 +11,8 @@ abbrev pub place_if : Bool → ℕ → List ℕ → List ℕ
 place_if true at places = at ∷ places
 place_if false at places = places
 
-module _ (test : ℕ × Trigger → Bool) where
-  pub more : (from : ℕ) (t : Trigger) (ts : List Trigger) → places_from test from (t ∷ ts)
+module _ {A : Type 0} (test : ℕ × A → Bool) where
+  pub more : (from : ℕ) (t : A) (ts : List A) → places_from test from (t ∷ ts)
       ≡ place_if (test (from, t)) from (places_from test (from + 1) ts)
   more from t ts = by_test (test (from, t)) refl where
     by_test : (b : Bool) → test (from, t) ≡ b → places_from test from (t ∷ ts)
@@ -29,7 +27,7 @@ module _ (test : ℕ × Trigger → Bool) where
   above_if false bound from places within all = all
 
   -- they are counted from there on
-  pub above : (bound from : ℕ) (ts : List Trigger) → bound ≤ from
+  pub above : (bound from : ℕ) (ts : List A) → bound ≤ from
       → AllByRecursion (λ p. bound ≤ p) (places_from test from ts)
   above bound from [] within = tt
   above bound from (t ∷ ts) within =
@@ -47,8 +45,8 @@ module _ (test : ℕ × Trigger → Bool) where
   alone true at = refl
   alone false at = refl
 
-  -- one more trigger behind the last
-  pub more_behind : (from : ℕ) (ts : List Trigger) (t : Trigger)
+  -- one more item behind the last
+  pub more_behind : (from : ℕ) (ts : List A) (t : A)
       → places_from test from (ts ++ t ∷ [])
       ≡ put_if (test (from + length ts, t)) (from + length ts) (places_from test from ts)
   more_behind from [] t =
@@ -64,16 +62,16 @@ module _ (test : ℕ × Trigger → Bool) where
       ∙ ap (put_if (test (n, t)) n) (sym (more from s ts))
       ∙ ap (λ k. put_if (test (k, t)) k (places_from test from (s ∷ ts))) e
 
--- one more of the first triggers
-pub next_place : (test : TriggerKind → Bool) (ts : List Trigger) (at : ℕ) (t : Trigger)
+-- one more of the first items
+pub next_place : {A : Type 0} (test : A → Bool) (ts : List A) (at : ℕ) (t : A)
     → at < length ts → t ≡ get_or ts at t
-    → places_from (λ e. test e.1.kind) 0 (take (at + 1) ts)
-    ≡ put_if (test t.kind) at (places_from (λ e. test e.1.kind) 0 (take at ts))
+    → places_from (λ e. test e.1) 0 (take (at + 1) ts)
+    ≡ put_if (test t) at (places_from (λ e. test e.1) 0 (take at ts))
 next_place test ts at t within is =
     let few : length (take at ts) ≡ at = length-take-le at ts (omega (arith, within)) in
     let e : 0 + length (take at ts) ≡ at = omega (arith, few) in
     let split : take (at + 1) ts ≡ take at ts ++ t ∷ [] =
     take_more ts at t within ∙ ap (λ x. take at ts ++ x ∷ []) (sym is) in
-    ap (places_from (λ e. test e.1.kind) 0) split
-    ∙ more_behind (λ e. test e.1.kind) 0 (take at ts) t
-    ∙ ap (λ n. put_if (test t.kind) n (places_from (λ e. test e.1.kind) 0 (take at ts))) e
+    ap (places_from (λ e. test e.1) 0) split
+    ∙ more_behind (λ e. test e.1) 0 (take at ts) t
+    ∙ ap (λ n. put_if (test t) n (places_from (λ e. test e.1) 0 (take at ts))) e

@@ -31,9 +31,9 @@ abbrev pub trigger_holds : Snapshot → List ℕ → Option ℕ → ℕ × Trigg
 trigger_holds s event group entry =
     fits event group entry.0 entry.1.kind && list_all (holds s) entry.1.conditions
 
--- the places of those triggers of a list, counted from a number, that pass a test
-abbrev pub places_from : (ℕ × Trigger → Bool) → ℕ → List Trigger → List ℕ
-places_from test from triggers = map (λ entry. entry.0) (filter test (enumerate_from from triggers))
+-- the places of those items of a list, counted from a number, that pass a test
+abbrev pub places_from : {A : Type 0} → (ℕ × A → Bool) → ℕ → List A → List ℕ
+places_from test from items = map (λ entry. entry.0) (filter test (enumerate_from from items))
 
 -- the places of the triggers that hold, in the order of the export
 abbrev pub holding : Snapshot → List ℕ → Option ℕ → List ℕ

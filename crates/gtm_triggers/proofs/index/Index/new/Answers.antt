@@ -1,4 +1,5 @@
 use Rattle.std.proofs.Common.{◌∙◌, ap, sym}
+use Rattle.export_model.specs.declared.triggers.Trigger.{Trigger}
 use Rattle.gtm_triggers.proofs.Places.{next_place}
 use Rattle.gtm_triggers.proofs.index.Index.new.Goals as goal
 use Rattle.gtm_triggers.specs.Indexed.{is_custom, is_for, put_if}
@@ -11,9 +12,11 @@ loop-at-preserved c =
     record {
       customs = c.in_ok-add.ensures.customs
           ∙ ap (put_if (is_custom trigger.kind) at) c.loop-at.invariant.customs
-          ∙ sym (next_place is_custom ts at trigger c.loop-at-test.true c.trigger-item.is);
+          ∙ sym (next_place (λ (t : Trigger). is_custom t.kind) ts at trigger
+              c.loop-at-test.true c.trigger-item.is);
       events = λ event.
           c.in_ok-add.ensures.events event
           ∙ ap (put_if (is_for event trigger.kind) at) (c.loop-at.invariant.events event)
-          ∙ sym (next_place (is_for event) ts at trigger c.loop-at-test.true c.trigger-item.is);
+          ∙ sym (next_place (λ (t : Trigger). is_for event t.kind) ts at trigger
+              c.loop-at-test.true c.trigger-item.is);
     }
