@@ -129,10 +129,12 @@ in_ = (
   true,
 )
 
+infixr 20 ◌&◌
 -- each of these tokens is refused at its place
-abbrev pub AreRefused : List (Toks × ℕ × Bool) → Type 0
-AreRefused [] = Unit {0}
-AreRefused (w ∷ ws) = IsRefused w.0 w.1 w.2 × AreRefused ws
+pub data AreRefused : List (Toks × ℕ × Bool) → Type 0 where
+  none_refused : AreRefused []
+  ◌&◌ : {w : Toks × ℕ × Bool} {ws : List (Toks × ℕ × Bool)} →
+      IsRefused w.0 w.1 w.2 → AreRefused ws → AreRefused (w ∷ ws)
 
 -- all of them
 abbrev pub refused : List (Toks × ℕ × Bool)

@@ -367,10 +367,12 @@ block = (
   (tree.more_stmts (tree.block 0 (tree.more_stmts (tree.empty 2) tree.no_stmts)) tree.no_stmts),
 )
 
+infixr 20 ◌&◌
 -- each of these tokens is read as its script
-abbrev pub AreRead : List (Toks × StmtTrees) → Type 0
-AreRead [] = Unit {0}
-AreRead (w ∷ ws) = Reads w.0 w.1 × AreRead ws
+pub data AreRead : List (Toks × StmtTrees) → Type 0 where
+  none_read : AreRead []
+  ◌&◌ : {w : Toks × StmtTrees} {ws : List (Toks × StmtTrees)} →
+      Reads w.0 w.1 → AreRead ws → AreRead (w ∷ ws)
 
 -- all of them
 abbrev pub worked : List (Toks × StmtTrees)
