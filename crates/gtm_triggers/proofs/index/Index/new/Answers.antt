@@ -13,10 +13,10 @@ loop-at-preserved c =
       customs = c.in_ok-add.ensures.customs
           ∙ ap (put_if (is_custom trigger.kind) at) c.loop-at.invariant.customs
           ∙ sym (next_place (λ (t : Trigger). is_custom t.kind) ts at trigger
-              c.loop-at-test.true c.trigger-item.is);
+          c.loop-at-test.true c.trigger-item.is);
       events = λ event.
           c.in_ok-add.ensures.events event
           ∙ ap (put_if (is_for event trigger.kind) at) (c.loop-at.invariant.events event)
           ∙ sym (next_place (λ (t : Trigger). is_for event t.kind) ts at trigger
-              c.loop-at-test.true c.trigger-item.is);
+          c.loop-at-test.true c.trigger-item.is);
     }
